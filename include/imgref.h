@@ -35,9 +35,9 @@
 
 /* The version of this header, in three numbers and as a text. */
 #define IMGREF_VERSION_MAJOR 0
-#define IMGREF_VERSION_MINOR 2
+#define IMGREF_VERSION_MINOR 3
 #define IMGREF_VERSION_PATCH 0
-#define IMGREF_VERSION "0.2.0"
+#define IMGREF_VERSION "0.3.0"
 
 #ifdef __cplusplus
 extern "C" {
@@ -52,6 +52,8 @@ typedef uint32_t imgref_status;
 #define IMGREF_PLACE_OUTSIDE ((imgref_status)4)  /* there is no pixel in that column and row */
 #define IMGREF_NO_TILE ((imgref_status)5)        /* there is no tile of that number, or a tile would have no pixel */
 #define IMGREF_NO_TURN ((imgref_status)6)        /* there is no turn of that number */
+#define IMGREF_TOO_LARGE ((imgref_status)7)      /* a sum might not fit its number */
+#define IMGREF_NO_ROOM ((imgref_status)8)        /* a room has fewer numbers than there are places */
 
 /* A turn: how many quarters, clockwise. After IMGREF_RIGHT the first row is the last column, and after IMGREF_LEFT it is the
  * first column, from the bottom. */
@@ -131,6 +133,15 @@ imgref_status imgref_tile(size_t width, size_t height, size_t tile_width, size_t
  *              NOT_AN_IMAGE.
  * equal        Whether two images have one size and equal pixels at every place goes to `equal`; strides and padding don't
  *              count. NOT_AN_IMAGE (of either).
+ * flood_fill   The pixel in column x of row y becomes `value`, and so does each that is connected with it: a path leads there
+ *              over sides, and over places that show the same pixel. `room` has a number for each place, width * height of
+ *              them. What it has then means nothing. NOT_AN_IMAGE, PLACE_OUTSIDE, NO_ROOM.
+ * components   `labels` is an image of the same size at a stride of its own. Each place gets a label there, and two places have
+ *              one label exactly if they are connected, as in flood_fill. No pixel value is background. The labels are 1, 2 and
+ *              so on up to the number of regions, which goes to `count`: imgref_u64_count of a label is the area of a region.
+ *              `room` is as in flood_fill. NOT_AN_IMAGE (of either), NO_ROOM.
+ * bounding_box The least window that has every place with a value goes to `around`. With a label it is the box around a region.
+ *              Where no place has the value, it is 0, 0, 0, 0. NOT_AN_IMAGE.
  */
 #define IMGREF_CALLS(NAME, CELL)                                                                                             \
     imgref_status imgref_##NAME##_get(const CELL *cells, size_t len, size_t width, size_t height, size_t stride, size_t x,    \
@@ -172,7 +183,14 @@ imgref_status imgref_tile(size_t width, size_t height, size_t tile_width, size_t
     imgref_status imgref_##NAME##_pack(CELL *cells, size_t len, size_t width, size_t height, size_t stride);                  \
     imgref_status imgref_##NAME##_equal(const CELL *cells, size_t len, size_t width, size_t height, size_t stride,            \
                                         const CELL *other, size_t other_len, size_t other_width, size_t other_height,         \
-                                        size_t other_stride, bool *equal);
+                                        size_t other_stride, bool *equal);                                                    \
+    imgref_status imgref_##NAME##_flood_fill(CELL *cells, size_t len, size_t width, size_t height, size_t stride, size_t x,   \
+                                             size_t y, CELL value, size_t *room, size_t room_len);                            \
+    imgref_status imgref_##NAME##_components(const CELL *cells, size_t len, size_t width, size_t height, size_t stride,       \
+                                             uint64_t *labels, size_t labels_len, size_t labels_stride, size_t *room,         \
+                                             size_t room_len, uint64_t *count);                                               \
+    imgref_status imgref_##NAME##_bounding_box(const CELL *cells, size_t len, size_t width, size_t height, size_t stride,     \
+                                               CELL value, imgref_rect *around);
 
 IMGREF_CALLS(u8, uint8_t)
 IMGREF_CALLS(u16, uint16_t)
@@ -187,6 +205,23 @@ IMGREF_CALLS(u64, uint64_t)
 IMGREF_MEANS(u8, uint8_t)
 IMGREF_MEANS(u16, uint16_t)
 #undef IMGREF_MEANS
+
+/* Values and sums of an image of bytes:
+ *
+ * histogram    How many pixels have each value goes to `counts`: number v counts the pixels that are v. Also of u16, with 65536
+ *              counts. NOT_AN_IMAGE.
+ * equalize     The values are spread over 0 to 255 by the cumulative histogram. A pixel becomes the part of 255 that the pixels
+ *              up to its value are of all pixels, rounded down. NOT_AN_IMAGE.
+ * integral     `areas` is an image of the same size at a stride of its own. Each of its pixels becomes the sum of the image's
+ *              pixels up to its column in the rows up to its own. NOT_AN_IMAGE (of either), TOO_LARGE (2^56 pixels or more).
+ */
+imgref_status imgref_u8_histogram(const uint8_t *cells, size_t len, size_t width, size_t height, size_t stride,
+                                  uint64_t counts[256]);
+imgref_status imgref_u16_histogram(const uint16_t *cells, size_t len, size_t width, size_t height, size_t stride,
+                                   uint64_t counts[65536]);
+imgref_status imgref_u8_equalize(uint8_t *cells, size_t len, size_t width, size_t height, size_t stride);
+imgref_status imgref_u8_integral(const uint8_t *cells, size_t len, size_t width, size_t height, size_t stride, uint64_t *areas,
+                                 size_t areas_len, size_t areas_stride);
 
 #ifdef __cplusplus
 }

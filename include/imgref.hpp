@@ -31,9 +31,11 @@
 #include <cstring>
 #include <functional>
 #include <iterator>
+#include <memory>
 #include <stdexcept>
 #include <type_traits>
 #include <utility>
+#include <vector>
 
 #if defined(__has_include)
 #if __has_include(<version>)
@@ -74,6 +76,8 @@ private:
         case IMGREF_PLACE_OUTSIDE: return "the place is outside";
         case IMGREF_NO_TILE: return "no such tile";
         case IMGREF_NO_TURN: return "no such turn";
+        case IMGREF_TOO_LARGE: return "a sum might not fit";
+        case IMGREF_NO_ROOM: return "the room has too few numbers";
         default: return "refused";
         }
     }
@@ -130,6 +134,9 @@ template <std::size_t Size> struct calls;
         static constexpr auto swap_rows = imgref_##NAME##_swap_rows;                                                         \
         static constexpr auto pack = imgref_##NAME##_pack;                                                                   \
         static constexpr auto equal = imgref_##NAME##_equal;                                                                 \
+        static constexpr auto flood_fill = imgref_##NAME##_flood_fill;                                                       \
+        static constexpr auto components = imgref_##NAME##_components;                                                       \
+        static constexpr auto bounding_box = imgref_##NAME##_bounding_box;                                                   \
     };
 IMGREF_CALLS_OF(1, u8, std::uint8_t)
 IMGREF_CALLS_OF(2, u16, std::uint16_t)
@@ -140,6 +147,10 @@ IMGREF_CALLS_OF(8, u64, std::uint64_t)
 // The call that only cells of one and of two bytes have.
 template <std::size_t Size> inline constexpr auto mosaic_means = imgref_u8_mosaic_means;
 template <> inline constexpr auto mosaic_means<2> = imgref_u16_mosaic_means;
+
+// The call that only these cells have, with a count for each value.
+template <std::size_t Size> inline constexpr auto histogram = imgref_u8_histogram;
+template <> inline constexpr auto histogram<2> = imgref_u16_histogram;
 
 // What a view of no pixel may point to, since no pointer may be null.
 inline std::uint64_t nowhere = 0;
@@ -330,6 +341,57 @@ public:
         detail::done(detail::mosaic_means<sizeof(cell)>(written(), len_, pixels_of(width_, channels), height_, stride_, channels, window, tile_width, tile_height));
     }
 
+    // How many pixels have each value. Only for unsigned pixels of one and of two bytes.
+    std::vector<std::uint64_t> histogram() const {
+        static_assert(std::is_same_v<value_type, std::uint8_t> || std::is_same_v<value_type, std::uint16_t>, "no table has a count for each of these values");
+        std::vector<std::uint64_t> counts(std::size_t(1) << 8 * sizeof(cell));
+        detail::done(detail::histogram<sizeof(cell)>(cells(), len_, width_, height_, stride_, counts.data()));
+        return counts;
+    }
+
+    // Spreads the values over 0 to 255: each pixel becomes the part of 255 that the pixels up to its
+    // value are of all, rounded down. Only for bytes.
+    void equalize() const {
+        static_assert(std::is_same_v<value_type, std::uint8_t>, "only bytes are spread");
+        detail::done(imgref_u8_equalize(written(), len_, width_, height_, stride_));
+    }
+
+    // Each pixel of `areas`, which has this size, becomes the sum of the pixels up to its column in the
+    // rows up to its own. Only for bytes.
+    void integral_into(view<std::uint64_t> areas) const {
+        static_assert(std::is_same_v<value_type, std::uint8_t>, "only bytes are summed");
+        if (areas.width_ != width_ || areas.height_ != height_) throw refused(IMGREF_SIZES_DIFFER);
+        if (areas.shares_bytes(pixels_, len_)) throw std::invalid_argument("the images share memory");
+        detail::done(imgref_u8_integral(cells(), len_, width_, height_, stride_, areas.written(), areas.len_, areas.stride_));
+    }
+
+    // The pixel in column x of row y becomes `pixel`, and so does each that is connected with it: over
+    // sides, and over pixels of the same bits. Allocates a number for each place.
+    template <class Value = value_type, class = if_fits<Value>> void flood_fill(std::size_t x, std::size_t y, const Value &pixel) const {
+        const auto room = room_of_all();
+        detail::done(calls::flood_fill(written(), len_, width_, height_, stride_, x, y, bits(pixel), room.get(), width_ * height_));
+    }
+
+    // Each pixel of `labels`, which has this size, becomes the label of its region, and the number of
+    // regions is returned. The labels begin at 1. Two places have one label exactly if they are
+    // connected, as in flood_fill. Allocates a number for each place.
+    std::size_t components_into(view<std::uint64_t> labels) const {
+        if (labels.width_ != width_ || labels.height_ != height_) throw refused(IMGREF_SIZES_DIFFER);
+        if (labels.shares_bytes(pixels_, len_)) throw std::invalid_argument("the images share memory");
+        const auto room = room_of_all();
+        std::uint64_t regions = 0;
+        detail::done(calls::components(cells(), len_, width_, height_, stride_, labels.written(), labels.len_, labels.stride_, room.get(), width_ * height_, &regions));
+        return static_cast<std::size_t>(regions);
+    }
+
+    // The least window that has every place with a value. With a label it is the box around a region.
+    // It is empty where no place has the value.
+    template <class Value = value_type, class = if_fits<Value>> rect bounding_box(const Value &value) const {
+        rect around{};
+        detail::done(calls::bounding_box(cells(), len_, width_, height_, stride_, bits(value), &around));
+        return around;
+    }
+
     // Writes this image, turned or transposed, to `target`, which has the size of the turned one and
     // shares no memory with this image.
     void turn_into(view<value_type> target, imgref::turn by, std::size_t channels = 1) const {
@@ -421,9 +483,18 @@ private:
         return width / channels;
     }
 
+    // A number for each place, and one more, since no pointer may be null.
+    std::unique_ptr<std::size_t[]> room_of_all() const { return std::unique_ptr<std::size_t[]>(new std::size_t[width_ * height_ + 1]); }
+
     bool shares(const view<const value_type> &other) const noexcept {
         std::less<const value_type *> before;
         return len_ && other.len_ && before(pixels_, other.pixels_ + other.len_) && before(other.pixels_, pixels_ + len_);
+    }
+
+    // The same of pixels of another type.
+    template <class U> bool shares_bytes(const U *pixels, std::size_t len) const noexcept {
+        std::less<const void *> before;
+        return len_ && len && before(pixels_, pixels + len) && before(pixels, pixels_ + len_);
     }
 
     static cell bits(const value_type &pixel) noexcept {

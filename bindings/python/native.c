@@ -12,6 +12,7 @@
 #define PY_SSIZE_T_CLEAN
 #include <Python.h>
 #include <stddef.h>
+#include <stdlib.h>
 #include <string.h>
 #include <structmember.h>
 #include <sys/mman.h>
@@ -433,7 +434,7 @@ static imgref_rect window_of(const size_t *n) { return rect(n[0], n[1], n[2], n[
 /* The columns and the rows, in pixels. */
 #define SIZE(OF) (OF)->width / (OF)->step, (OF)->height
 #define CORNERS(N) (N)[0], (N)[1], (N)[2], (N)[3]
-#define ALL(OF) ((OF)->width * (OF)->height)
+#define ALL(OF) ALL_OF(OF)
 /* (a window with more than 2^64 pixels is refused) */
 #define IN(N) ((N)[2] * (N)[3])
 
@@ -617,6 +618,100 @@ CALL(call_mosaic_means) {
     return done_in(&i, status, n);
 }
 
+/* How many pixels have each value goes to an image of one row of numbers of eight bytes. */
+CALL(call_histogram) {
+    (void)module;
+    Cells *it = first_in(given, count, 2), *counts = it ? cells_in(given[1]) : NULL;
+    if (!counts || !is_written(counts)) return NULL;
+    const image i = it->shown, o = counts->shown;
+    if (i.size > 2 || i.step != 1 || o.size != 8 || o.len < (size_t)1 << 8 * i.size || images_overlap(&i, &o)) return PyErr_Format(PyExc_TypeError, "no counts of these pixels");
+    UNLOCKED(ALL(&i), image_histogram(&i, CELLS(uint64_t, &o)))
+    return done_in(&i, status, NULL);
+}
+
+CALL(call_equalize) {
+    (void)module;
+    Cells *it = first_in(given, count, 1);
+    if (!it || !is_written(it)) return NULL;
+    const image i = it->shown;
+    if (i.size != 1) return PyErr_Format(PyExc_TypeError, "no bytes");
+    UNLOCKED(ALL(&i), image_equalize(&i))
+    return done_in(&i, status, NULL);
+}
+
+/* The sums go to an image of the same size, of numbers of eight bytes. */
+CALL(call_integral) {
+    (void)module;
+    Cells *it = first_in(given, count, 2), *areas = it ? cells_in(given[1]) : NULL;
+    if (!areas || !is_written(areas)) return NULL;
+    const image i = it->shown, o = areas->shown;
+    if (i.size != 1 || i.step != 1 || o.size != 8 || o.width != i.width || o.height != i.height || images_overlap(&i, &o)) return PyErr_Format(PyExc_TypeError, "no sums of these pixels");
+    UNLOCKED(ALL(&i), image_integral(&i, &o))
+    return done_in(&i, status, NULL);
+}
+
+/* Asks for large pages where new memory has many: most of the time of a large copy goes into taking pages. (NumPy does the
+ * same from the same size on.) */
+static void take_large_pages(char *memory, size_t bytes) {
+#ifdef MADV_HUGEPAGE
+    const size_t page = 4096, skipped = page - (uintptr_t)memory % page;
+    if (bytes >= (size_t)1 << 22) madvise(memory + skipped, bytes - skipped, MADV_HUGEPAGE);
+#endif
+}
+
+/* Memory for a number for each place of an image, or NULL with an exception. It is never empty, since no pointer may be null. */
+static size_t *room_of(const image *i) {
+    const size_t bytes = (ALL(i) + 1) * sizeof(size_t);
+    size_t *room = malloc(bytes);
+    if (!room) PyErr_NoMemory();
+    else take_large_pages((char *)room, bytes);
+    return room;
+}
+
+/* It keeps Python's lock: were pixels written meanwhile, a place could be pending twice, and the room too small. */
+CALL(call_flood_fill) {
+    (void)module;
+    size_t n[2], *room;
+    uint64_t bits[MOST_STEPS];
+    Cells *it = first_in(given, count, 4);
+    if (!it || !numbers_of(given + 1, 2, n) || !bits_of(given[3], it->shown.step, bits) || !is_written(it)) return NULL;
+    const image i = it->shown;
+    if (i.step != 1) return PyErr_Format(PyExc_TypeError, "a pixel of several cells");
+    if (!(room = room_of(&i))) return NULL;
+    const imgref_status status = image_flood_fill(&i, n[0], n[1], bits[0], room);
+    free(room);
+    if (status == IMGREF_PLACE_OUTSIDE) return REFUSED(status, "place", n[0], n[1], SIZE(&i));
+    return done_in(&i, status, NULL);
+}
+
+/* How many regions there are. The labels go to an image of the same size, of numbers of eight bytes. */
+CALL(call_components) {
+    (void)module;
+    size_t *room;
+    uint64_t regions = 0;
+    Cells *it = first_in(given, count, 2), *labels = it ? cells_in(given[1]) : NULL;
+    if (!labels || !is_written(labels)) return NULL;
+    const image i = it->shown, o = labels->shown;
+    if (i.step != 1 || o.size != 8 || o.width != i.width || o.height != i.height || images_overlap(&i, &o)) return PyErr_Format(PyExc_TypeError, "no labels of these pixels");
+    if (!(room = room_of(&i))) return NULL;
+    UNLOCKED(ALL(&i), image_components(&i, &o, room, &regions))
+    free(room);
+    return status == IMGREF_OK ? PyLong_FromUnsignedLongLong(regions) : done_in(&i, status, NULL);
+}
+
+CALL(call_bounding_box) {
+    (void)module;
+    uint64_t bits[MOST_STEPS];
+    imgref_rect around = {0, 0, 0, 0};
+    Cells *it = first_in(given, count, 2);
+    if (!it || !bits_of(given[1], it->shown.step, bits)) return NULL;
+    const image i = it->shown;
+    if (i.step != 1) return PyErr_Format(PyExc_TypeError, "a pixel of several cells");
+    UNLOCKED(ALL(&i), image_bounding_box(&i, bits[0], &around))
+    if (status != IMGREF_OK) return done_in(&i, status, NULL);
+    return Py_BuildValue("nnnn", around.left, around.top, around.width, around.height);
+}
+
 CALL(call_pack) {
     (void)module;
     Cells *it = first_in(given, count, 1);
@@ -661,15 +756,6 @@ CALL(call_window) {
     made->is_readonly = it->is_readonly;
     strcpy(made->format, it->format);
     return Py_BuildValue("Nnn", made, (Py_ssize_t)n[2], (Py_ssize_t)n[3]);
-}
-
-/* Asks for large pages where new memory has many: most of the time of a large copy goes into taking pages. (NumPy does the
- * same from the same size on.) */
-static void take_large_pages(char *memory, size_t bytes) {
-#ifdef MADV_HUGEPAGE
-    const size_t page = 4096, skipped = page - (uintptr_t)memory % page;
-    if (bytes >= (size_t)1 << 22) madvise(memory + skipped, bytes - skipped, MADV_HUGEPAGE);
-#endif
 }
 
 /* The bytes of the pixels in joined rows: they are written once, into new memory. */
@@ -787,6 +873,7 @@ ENCODE(Q, 64, false, OWN "Q")
 static PyMethodDef calls[] = {
     FAST(get),  FAST(put),    FAST(fill),   FAST(copy), FAST(move), FAST(mosaic),     FAST(mosaic_means), FAST(pack), FAST(equal),
     FAST(hold), FAST(window), FAST(joined), FAST(overlap), {"room", call_room, METH_O, NULL},        {"address", call_address, METH_O, NULL},
+    FAST(histogram), FAST(equalize), FAST(integral), FAST(flood_fill), FAST(components), FAST(bounding_box),
     FAST(count), FAST(turn), FAST(turn_in_place), FAST(flip_rows), FAST(flip_columns), FAST(swap_rows),
     FAST(tile), FAST(tile_count), NUMBER(b), NUMBER(B), NUMBER(h), NUMBER(H), NUMBER(i), NUMBER(I), NUMBER(q), NUMBER(Q),
     {NULL, NULL, 0, NULL},

@@ -164,6 +164,32 @@ static imgref_status image_mosaic_means(const image *i, imgref_rect window, size
     }
 }
 
+/* The cells are numbers of one or of two bytes, each a pixel, and there is a count for each value: the caller tests it. */
+static imgref_status image_histogram(const image *i, uint64_t *counts) {
+    return i->size == 1 ? imgref_u8_histogram(LAYOUT(uint8_t, i), counts) : imgref_u16_histogram(LAYOUT(uint16_t, i), counts);
+}
+
+/* The cells are bytes: the caller tests it. */
+static imgref_status image_equalize(const image *i) { return imgref_u8_equalize(LAYOUT(uint8_t, i)); }
+
+/* The same, and the areas are numbers of eight bytes in an image of the same size that shares no memory with the other. */
+static imgref_status image_integral(const image *i, const image *areas) {
+    return imgref_u8_integral(LAYOUT(uint8_t, i), CELLS(uint64_t, areas), areas->len, areas->stride);
+}
+
+/* A pixel is one cell, and the room has a number for each: the caller tests it. */
+#define FLOOD_FILL(NAME, TYPE) imgref_##NAME##_flood_fill(LAYOUT(TYPE, i), x, y, (TYPE)bits, room, ALL_OF(i))
+#define ALL_OF(OF) ((OF)->width * (OF)->height)
+static imgref_status image_flood_fill(const image *i, size_t x, size_t y, uint64_t bits, size_t *room) { BY_SIZE(FLOOD_FILL) }
+
+/* The same, and the labels are numbers of eight bytes in an image of the same size that shares no memory with the other. */
+#define COMPONENTS(NAME, TYPE)                                                                                               \
+    imgref_##NAME##_components(LAYOUT(TYPE, i), CELLS(uint64_t, labels), labels->len, labels->stride, room, ALL_OF(i), count)
+static imgref_status image_components(const image *i, const image *labels, size_t *room, uint64_t *count) { BY_SIZE(COMPONENTS) }
+
+#define BOUNDING_BOX(NAME, TYPE) imgref_##NAME##_bounding_box(LAYOUT(TYPE, i), (TYPE)bits, around)
+static imgref_status image_bounding_box(const image *i, uint64_t bits, imgref_rect *around) { BY_SIZE(BOUNDING_BOX) }
+
 /* The stride is that of joined rows from then on. */
 #define PACK(NAME, TYPE) imgref_##NAME##_pack(LAYOUT(TYPE, i))
 static imgref_status image_pack(const image *i) { BY_SIZE(PACK) }

@@ -16,11 +16,12 @@ refuses, for example a window that isn't inside, that is `Refused`, a `ValueErro
 overlaps is refused here too, since the library can't see that.
 """
 from ._image import Image
+from ._regions import bounding_box, components, equalize, flood_fill, histogram, integral
 from ._types import Buffer, Corners, Number, Pixel, Refused, Window
 
-__version__ = "0.2.0"
-__all__ = ["Buffer", "Corners", "Image", "Number", "Pixel", "Refused", "Window", "__version__"]
+__version__ = "0.3.0"
+__all__ = ["Buffer", "Corners", "Image", "Number", "Pixel", "Refused", "Window", "bounding_box", "components", "equalize", "flood_fill", "histogram", "integral", "__version__"]
 
 # (a user knows these by the package's name)
-for _it in (Image, Refused, Window):
+for _it in (Image, Refused, Window, bounding_box, components, equalize, flood_fill, histogram, integral):
     _it.__module__ = __name__

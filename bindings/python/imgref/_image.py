@@ -6,6 +6,7 @@ from types import EllipsisType
 from typing import Any, Iterator, SupportsIndex, overload
 
 from . import _native
+from ._cells import Cell
 from ._layout import Layout
 from ._memory import known, memory_of, shaped, sized
 from ._refusals import place
@@ -128,7 +129,7 @@ class Image(Layout):
         """The window gets the pixels of `source`, an image or a buffer of two or three dimensions.
         It has the window's size and this image's format, and is over other memory."""
         if not isinstance(source, Image):
-            source = _image_of(source)
+            source = image_of(source)
         self._needs_alike(source, "source")
         _copy(self, window, source)
 
@@ -143,13 +144,8 @@ class Image(Layout):
         return made
 
     def _room(self, width: int, height: int) -> Image:
-        """An image of another size with pixels as this one has, in joined rows and memory of its
-        own. It has no values yet."""
-        cell, channels = self._pixels.cell, self._pixels.channels
-        made, numbers = Image.__new__(Image), width * height * channels
-        owned = memory_of(_native.room(numbers * cell.size))._replace(cell=cell)
-        made._over(owned, width, height, max(width, 1) * channels, numbers, channels)
-        return made
+        """An image of another size with pixels as this one has."""
+        return room_of(self._pixels.cell, self._pixels.channels, width, height)
 
     def turn_into(self, target: Image, turn: Turn) -> None:
         """Writes the pixels to `target`, turned clockwise: `"right"`, `"half"` or `"left"`. It has
@@ -307,7 +303,7 @@ class Image(Layout):
         if not isinstance(place, Window):
             self.put(*place, value)
         elif isinstance(value, Image) or getattr(value, "ndim", 0) > 1:
-            source = value if isinstance(value, Image) else _image_of(value)
+            source = value if isinstance(value, Image) else image_of(value)
             # (a part of this image is copied first, as NumPy does)
             self.copy_window(place, source.copy() if _native.overlap(self, source) else source)
         else:
@@ -342,7 +338,7 @@ class Image(Layout):
     def __eq__(self, other: object) -> bool:
         if not isinstance(other, Image):
             try:
-                other = _image_of(other)
+                other = image_of(other)
             except (ValueError, TypeError):
                 return False
         return self._is_alike(other) and _equal(self, other)
@@ -375,7 +371,16 @@ def _quarters(turn: Turn) -> int:
     return _QUARTERS[turn]
 
 
-def _image_of(source: Buffer) -> Image:
+def room_of(cell: Cell, channels: int, width: int, height: int) -> Image:
+    """An image of such pixels, in joined rows and memory of its own. It has no values yet."""
+    made, numbers = Image.__new__(Image), width * height * channels
+    # (a bytearray of no byte may begin at any address)
+    owned = memory_of(_native.room(max(numbers, 1) * cell.size))._replace(cell=cell)
+    made._over(owned, width, height, max(width, 1) * channels, numbers, channels)
+    return made
+
+
+def image_of(source: Buffer) -> Image:
     """An image over the pixels of a buffer, or over a copy where its strides are no image's."""
     try:
         return Image(source)

@@ -10,7 +10,7 @@ import time
 
 from counting import check, end, numpy_or_none, raises
 from cycles import all_of
-from imgref import Image, Window
+from imgref import Image, Window, bounding_box, components, equalize, flood_fill, histogram
 from imgref._native import Cells
 
 # Small memory is used again at once after it is freed, and large memory is given back to the system.
@@ -111,6 +111,8 @@ def calls(side, channels, value):
         "flip_columns": (lambda i, o, n: i.flip_columns(tuple(n)), [*inner]),
         "swap_rows": (lambda i, o, n: i.swap_rows(*n), [2, 3]),
         "mosaic_means": (lambda i, o, n: i.mosaic_means(tuple(n[:4]), *n[4:]), [*inner, 3, 2]),
+        "flood_fill": (lambda i, o, n: flood_fill(i, tuple(n[:2]), n[2]), [2, 3, value]),
+        "bounding_box": (lambda i, o, n: bounding_box(i, n[0]), [value]),
         "window": (lambda i, o, n: i.window(tuple(n)).tobytes(), [*inner]),
         "tiles": (lambda i, o, n: [*i.tiles(*n)], [5, 4]),
         "Image": (lambda i, o, n: Image(bytearray(24), *n[:3], channels=n[3]).whole, [3, 2, 8, 2]),
@@ -136,7 +138,7 @@ def of_numbers():
     for side in SIDES:
         for form, channels in (("B", 1), ("d", 1), ("?", 1), ("B", 3), ("H", 4)):
             for name, (_, numbers) in calls(side, channels, 1).items():
-                if name == "mosaic_means" and form not in "BH":
+                if name == "mosaic_means" and form not in "BH" or name in ("flood_fill", "bounding_box") and channels > 1:
                     continue
                 for at in range(len(numbers)):
                     change = lambda n, upset: [*n[:at], Number(n[at], upset), *n[at + 1 :]]
@@ -222,7 +224,7 @@ def together(label, work, disturb, image, size):
 
 def of_threads():
     """One thread calls, and another makes the image again, resizes its memory or packs it."""
-    for name in ("fill", "copy_window", "move_window", "mosaic", "turn_into", "turn", "flip_columns", "tobytes", "==", "copy"):
+    for name in ("fill", "copy_window", "move_window", "mosaic", "turn_into", "turn", "flip_columns", "tobytes", "==", "copy", "flood_fill", "components", "equalize", "histogram"):
         image, source = made("B", 1, 512, 7), made("B", 1, 512, 40)
         work = {
             "fill": lambda: image.fill(image.whole, 7),
@@ -235,6 +237,10 @@ def of_threads():
             "tobytes": image.tobytes,
             "==": lambda: image == source,
             "copy": image.copy,
+            "flood_fill": lambda: flood_fill(image, (0, 0), 8 - image[0, 0] % 2),
+            "components": lambda: components(image),
+            "equalize": lambda: equalize(image),
+            "histogram": lambda: histogram(image),
         }[name]
         # (as large as before, so that its memory is freed and taken again)
         again = lambda: [it.__init__(bytearray(515 * 512), 512, 512, 515) for it in (image, source)]

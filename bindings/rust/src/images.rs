@@ -85,7 +85,7 @@ pub(crate) fn cells_of<P: Pixel>(pixels: &[P]) -> (*const P::Cell, usize) {
     (pixels.as_ptr().cast(), Cells::<P>::EACH * pixels.len())
 }
 
-fn cells_of_mut<P: Pixel>(pixels: &mut [P]) -> (*mut P::Cell, usize) {
+pub(crate) fn cells_of_mut<P: Pixel>(pixels: &mut [P]) -> (*mut P::Cell, usize) {
     (pixels.as_mut_ptr().cast(), Cells::<P>::EACH * pixels.len())
 }
 

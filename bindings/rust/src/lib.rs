@@ -28,6 +28,7 @@ mod calls;
 mod images;
 mod pixels;
 mod places;
+mod regions;
 pub use buffers::{Buffer, BufferMut};
 pub use calls::Cell;
 pub use images::{Img, ImgRef, ImgRefMut, ImgVec};
@@ -48,6 +49,10 @@ pub enum Refused {
     NoTile,
     /// There is no turn of that number.
     NoTurn,
+    /// A sum might not fit its number.
+    TooLarge,
+    /// A room has fewer numbers than there are places. No call of this package gives such a room.
+    NoRoom,
 }
 
 impl fmt::Display for Refused {
@@ -59,6 +64,8 @@ impl fmt::Display for Refused {
             Self::PlaceOutside => "the place is outside",
             Self::NoTile => "no such tile",
             Self::NoTurn => "no such turn",
+            Self::TooLarge => "a sum might not fit",
+            Self::NoRoom => "the room has too few numbers",
         })
     }
 }
@@ -73,7 +80,9 @@ fn done(status: u32) -> Result<(), Refused> {
         3 => Err(Refused::SizesDiffer),
         4 => Err(Refused::PlaceOutside),
         5 => Err(Refused::NoTile),
-        _ => Err(Refused::NoTurn),
+        6 => Err(Refused::NoTurn),
+        7 => Err(Refused::TooLarge),
+        _ => Err(Refused::NoRoom),
     }
 }
 

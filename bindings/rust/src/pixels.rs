@@ -1,6 +1,6 @@
 //! What a pixel may be.
 
-use std::mem::{align_of, size_of};
+use std::mem::{align_of, size_of, transmute_copy};
 
 use crate::calls::MosaicMeans;
 use crate::Cell;
@@ -122,6 +122,19 @@ impl<P: Pixel> Cells<P> {
         assert!(size % cell == 0 && size / cell >= 1 && size / cell <= 4, "a pixel has 1 to 4 cells");
         size / cell
     };
+}
+
+/// A pixel of one cell. That it has one is tested while the program is compiled.
+pub(crate) struct Single<P>(P);
+
+impl<P: Pixel> Single<P> {
+    pub(crate) const TESTED: () = assert!(Cells::<P>::EACH == 1, "regions are of pixels of one cell");
+
+    pub(crate) fn cell(pixel: P) -> P::Cell {
+        let _ = Self::TESTED;
+        // SAFETY: both have the same size and no padding, and any bytes are a number.
+        unsafe { transmute_copy(&pixel) }
+    }
 }
 
 /// The call that takes means of such pixels.

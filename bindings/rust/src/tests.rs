@@ -459,3 +459,35 @@ fn trusts_no_buffer_from_call_to_call() {
         assert!(image.into_buf().cells[1..].iter().copied().eq(1..64), "{name} writes past the buffer");
     }
 }
+
+#[test]
+fn counts_and_sums_values() {
+    let mut cells = [10u8, 10, 20, 99, 30, 20, 20];
+    let mut image = ImgRefMut::new_stride(&mut cells[..], 3, 2, 4).unwrap();
+    let counts = image.histogram().unwrap();
+    assert_eq!((counts[10], counts[20], counts[30], counts[99]), (2, 3, 1, 0));
+    assert_eq!(image.integral().unwrap().into_buf(), [10, 20, 40, 40, 70, 110]);
+    image.equalize().unwrap();
+    assert_eq!(cells, [85, 85, 212, 99, 255, 212, 212]);
+    let counts = ImgVec::new(vec![7u16, 65535, 7], 3, 1).unwrap().histogram_u16().unwrap();
+    assert_eq!((counts.len(), counts[7], counts[65535]), (65536, 2, 1));
+    assert_eq!(ImgVec::new(Vec::<u8>::new(), 0, 7).unwrap().integral().unwrap().height(), 7);
+}
+
+#[test]
+fn finds_regions() {
+    // A ring of ones around a hole, with a cell of padding after each row but the last.
+    let ring = vec![1u8, 1, 1, 0, 1, 1, 1, 0, 1, 0, 0, 1, 1, 1, 1, 1, 0, 1, 0, 0, 1, 0, 0];
+    let mut image = ImgVec::new_stride(ring, 5, 4, 6).unwrap();
+    let (labels, count) = image.components().unwrap();
+    assert_eq!((count, labels.get(2, 2), labels.get(1, 1)), (5, Ok(1), Ok(4)));
+    assert_eq!(labels.bounding_box(2), Ok(Some(Window::new(3, 0, 2, 4))));
+    assert_eq!((labels.count(labels.whole(), 1), labels.bounding_box(6)), (Ok(10), Ok(None)));
+    image.flood_fill(2, 2, 7).unwrap();
+    assert_eq!(image.flood_fill(5, 0, 7), Err(Refused::PlaceOutside));
+    assert_eq!(image.into_buf(), [7, 7, 7, 0, 1, 1, 7, 0, 7, 0, 0, 1, 7, 7, 7, 7, 0, 1, 0, 0, 7, 0, 0]);
+    let mut floats = ImgVec::new(vec![0.5f32, 0.5, -0.5, 0.5], 4, 1).unwrap();
+    floats.flood_fill(0, 0, 1.5).unwrap();
+    assert_eq!((floats.bounding_box(1.5), floats.components().unwrap().1), (Ok(Some(Window::new(0, 0, 2, 1))), 3));
+    assert_eq!(ImgVec::new(Vec::<u64>::new(), 0, 7).unwrap().components().unwrap().1, 0);
+}

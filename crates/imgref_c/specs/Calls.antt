@@ -1,10 +1,13 @@
 -- What a call leaves, by the status that it returns: with any other than 0 everything is as before.
-use Rattle.std.specs.Prelude.{◌≡◌, ℕ, ◌+◌, ◌*◌, ◌<◌, ◌≤◌, List, ◌++◌, drop}
+use Rattle.std.specs.Prelude.{◌≡◌, ℕ, ◌+◌, ◌*◌, ◌<◌, ◌≤◌, ◌⊎◌, List, ◌++◌, drop}
 use Rattle.image_model.specs.Layout.{Layout, layout, SameOutside}
 use Rattle.image_model.specs.Grid.{Grid, grid_of, patch}
-use Rattle.image_model.specs.Windows.{Window, Stretch, window_view}
+use Rattle.image_model.specs.Windows.{Window, Stretch, window, window_view}
 use Rattle.image_model.specs.Rows.{joined_rows}
 use Rattle.image_model.specs.Compaction.{least_stride}
+use Rattle.image_model.specs.Boxes.{IsNowhere, IsBoundingBox}
+use Rattle.image_model.specs.Connected.{AreFilled, AllFilled}
+use Rattle.image_model.specs.Regions.{AreRegions}
 
 -- what an image of these cells shows at a window
 abbrev pub seen : {T : Type 0} → ℕ → ℕ → ℕ → List T → Window → Grid T
@@ -34,3 +37,21 @@ pub record Finds (status start count new_start new_count len : ℕ) (s : Stretch
 pub record Gives {T : Type 0} (status : ℕ) (old new : T) (Holds : Type 0) : Type 0 where
   pub gives : status ≡ 0 → Holds
   pub unchanged : 0 < status → new ≡ old
+
+-- an image that was filled from a place on: with status 0 exactly what is connected with it has the value, and the padding is as before
+pub record Fills {T : Type 0} (status : ℕ) (old new : Layout T) (x y : ℕ) (value : T) : Type 0 where
+  pub filled : status ≡ 0 → AreFilled x y value (grid_of old) (grid_of new)
+  pub all : status ≡ 0 → AllFilled x y value (grid_of old) (grid_of new)
+  pub outside : status ≡ 0 → SameOutside old new
+  pub unchanged : 0 < status → new.cells ≡ old.cells
+
+-- labels of the regions of an image: with status 0 there are so many regions, and the padding is as before
+pub record Labels {T : Type 0} (status : ℕ) (image : Layout T) (old new : Layout ℕ) (count new_count : ℕ) : Type 0 where
+  pub regions : status ≡ 0 → AreRegions (grid_of image) (grid_of new) new_count
+  pub outside : status ≡ 0 → SameOutside old new
+  pub unchanged : 0 < status → new.cells ≡ old.cells
+  pub count_unchanged : 0 < status → new_count ≡ count
+
+-- the least window with every place that shows a value: where there is none, the window of no pixel at the corner
+abbrev pub IsBox : {T : Type 0} → Grid T → T → Window → Type 0
+IsBox g value w = (IsNowhere g value × (w ≡ window 0 0 0 0)) ⊎ IsBoundingBox g value w

@@ -8,7 +8,7 @@ use Rattle.image_turns.specs.Oriented.{oriented_width, oriented_height}
 use Rattle.image_turns.specs.declared.pixel_turning.Orientation.{Orientation}
 use Rattle.imgref_c.specs.Turns.{is_turn, turn_by}
 use Rattle.imgref_c.specs.declared.status.Status.{Status}
-use Rattle.imgref_c.specs.declared.status.Status.TheVariants.{Done, NotAnImage, WindowOutside, SizesDiffer, PlaceOutside, NoTile, NoTurn}
+use Rattle.imgref_c.specs.declared.status.Status.TheVariants.{Done, NotAnImage, WindowOutside, SizesDiffer, PlaceOutside, NoTile, NoTurn, TooLarge, NoRoom}
 
 -- its number in the header
 abbrev pub code : Status → ℕ
@@ -19,6 +19,8 @@ code SizesDiffer = 3
 code PlaceOutside = 4
 code NoTile = 5
 code NoTurn = 6
+code TooLarge = 7
+code NoRoom = 8
 
 -- so many cells are an image of this size and stride
 pub record IsImage (count width height stride : ℕ) : Type 0 where
@@ -70,6 +72,25 @@ move_status count width height stride from to =
 abbrev pub pair_status : ℕ → ℕ → ℕ → ℕ → ℕ → ℕ → ℕ → ℕ → Status
 pair_status count width height stride other_count other_width other_height other_stride =
     first (is_image count width height stride && is_image other_count other_width other_height other_stride) NotAnImage Done
+
+-- of the summed areas of an image, in another one of its size. The sums of so many bytes fit
+abbrev pub integral_status : ℕ → ℕ → ℕ → ℕ → ℕ → ℕ → Status
+integral_status count width height stride areas_count areas_stride =
+    first (is_image count width height stride && is_image areas_count width height areas_stride) NotAnImage
+    (first (nat_lt (width * height) (2 ^ 56)) TooLarge Done)
+
+-- of a flood fill from a place on, with so many numbers in its room
+abbrev pub flood_status : ℕ → ℕ → ℕ → ℕ → ℕ → ℕ → ℕ → Status
+flood_status count width height stride x y room =
+    first (is_image count width height stride) NotAnImage
+    (first (is_place width height x y) PlaceOutside
+    (first (nat_le (width * height) room) NoRoom Done))
+
+-- of the labels of an image's regions, in another image of its size
+abbrev pub labels_status : ℕ → ℕ → ℕ → ℕ → ℕ → ℕ → ℕ → Status
+labels_status count width height stride labels_count labels_stride room =
+    first (is_image count width height stride && is_image labels_count width height labels_stride) NotAnImage
+    (first (nat_le (width * height) room) NoRoom Done)
 
 -- of a mosaic of a window
 abbrev pub mosaic_status : ℕ → ℕ → ℕ → ℕ → Window → ℕ → ℕ → Status

@@ -1,6 +1,10 @@
 -- The words of the contracts of calls, to import from one place.
 pub use Rattle.image_model.specs.Layout.{layout}
 pub use Rattle.image_model.specs.Grid.{grid_of, uniform, Agree}
+pub use Rattle.image_model.specs.Counts.{histogram_of}
+pub use Rattle.image_model.specs.Rows.{grid_pixels}
+pub use Rattle.image_model.specs.Regions.{TellsApart}
+pub use Rattle.image_model.specs.Tables.{table}
 pub use Rattle.image_model.specs.Flips.{flipped}
 pub use Rattle.image_model.specs.Swaps.{rows_swapped}
 pub use Rattle.image_model.specs.Windows.{exact_stretch, IsInside}
@@ -12,8 +16,10 @@ pub use Rattle.image_turns.specs.declared.pixel_turning.Orientation.TheVariants.
 pub use Rattle.image_ops.specs.PixelCounts.{times_shown}
 pub use Rattle.image_means.specs.Means.{mean_mosaic as means_of, mean_mosaic_by as means_by}
 pub use Rattle.image_ops.specs.Repeated.{repeated}
+pub use Rattle.imgref.specs.Words.{area_at}
+pub use Rattle.image_regions.specs.Levels.{equalized}
 pub use Rattle.image_shape.specs.Window.{as_window}
 pub use Rattle.imgref_c.specs.Turns.{is_turn, turn_by}
-pub use Rattle.imgref_c.specs.Status.{code, is_image as passes, IsImage, image_status, place_status, window_status, copy_status, move_status, pair_status, mosaic_status, is_pixel_image, IsPixelImage, in_cells, pixel_window_status, pixel_mosaic_status, oriented_status, oriented_in_place_status, turn_status, turn_in_place_status, rows_status, tiles_status, tile_status}
+pub use Rattle.imgref_c.specs.Status.{code, is_image as passes, IsImage, image_status, place_status, window_status, copy_status, move_status, pair_status, integral_status, flood_status, labels_status, mosaic_status, is_pixel_image, IsPixelImage, in_cells, pixel_window_status, pixel_mosaic_status, oriented_status, oriented_in_place_status, turn_status, turn_in_place_status, rows_status, tiles_status, tile_status}
 pub use Rattle.imgref_c.specs.Numbering.{Numbered}
-pub use Rattle.imgref_c.specs.Calls.{seen, Writes, Packs, Finds, Gives}
+pub use Rattle.imgref_c.specs.Calls.{seen, Writes, Packs, Finds, Gives, Fills, Labels, IsBox}

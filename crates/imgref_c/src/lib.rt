@@ -9,6 +9,7 @@
 //! bytes are in the files of those names.
 #![tactic(auto)]
 
+mod areas;
 mod counts;
 mod flips;
 mod images;
@@ -17,6 +18,7 @@ mod packing;
 mod pairs;
 mod pixels;
 mod places;
+mod regions;
 mod status;
 mod tiles;
 mod turns;
@@ -24,4 +26,5 @@ mod u16_exports;
 mod u32_exports;
 mod u64_exports;
 mod u8_exports;
+mod values;
 mod windows;

@@ -19,6 +19,10 @@ pub(crate) enum Status {
     NoTile,
     /// There is no turn of that number.
     NoTurn,
+    /// A sum might not fit its number.
+    TooLarge,
+    /// The room has fewer numbers than there are places.
+    NoRoom,
 }
 
 impl Status {
@@ -36,6 +40,8 @@ impl Status {
             Status::PlaceOutside => 4,
             Status::NoTile => 5,
             Status::NoTurn => 6,
+            Status::TooLarge => 7,
+            Status::NoRoom => 8,
         }
     }
 }

@@ -4,10 +4,10 @@
 //! two, four and eight bytes are copies of this one, which `make exports` writes.
 
 ghost use Rattle.std.specs.Prelude.{◌≡◌, ◌*◌, ◌==◌, ◌↔◌, IsTrue, length, Some};
-ghost use Rattle.imgref_c.specs.Words.{as_window, code, copy_status, flipped, grid_of, image_status, in_cells, layout, mirrored_by, mosaic_by, mosaic_of, mosaic_status, move_status, oriented, oriented_in_place_status, oriented_status, pair_status, pixel_mosaic_status, pixel_window_status, place_status, repeated, rows_status, rows_swapped, seen, times_shown, turn_by, turn_in_place_status, turn_status, uniform, window_status, Agree, Gives, Packs, Transposed, Writes};
+ghost use Rattle.imgref_c.specs.Words.{as_window, code, copy_status, flipped, flood_status, grid_of, image_status, in_cells, labels_status, layout, mirrored_by, mosaic_by, mosaic_of, mosaic_status, move_status, oriented, oriented_in_place_status, oriented_status, pair_status, pixel_mosaic_status, pixel_window_status, place_status, repeated, rows_status, rows_swapped, seen, times_shown, turn_by, turn_in_place_status, turn_status, uniform, window_status, Agree, Fills, Gives, IsBox, Labels, Packs, Transposed, Writes};
 
 use crate::images::ClaimedShape;
-use crate::{counts, flips, packing, pairs, pixels, places, turns, windows};
+use crate::{counts, flips, packing, pairs, pixels, places, regions, turns, windows};
 use image_shape::Window;
 use image_turns::Orientation;
 
@@ -398,4 +398,71 @@ pub extern "C" fn imgref_u8_pack(
 {
     let claimed = ClaimedShape::new(width, height, stride);
     packing::pack(cells, claimed).code()
+}
+
+/// The pixel in column `x` of row `y` becomes `value`, and so does each that is connected with it. A path
+/// leads there over sides, and over places that show the same pixel. `room` has a number for each place.
+#[unsafe(no_mangle)]
+pub extern "C" fn imgref_u8_flood_fill(
+    cells: &mut [u8],
+    width: usize,
+    height: usize,
+    stride: usize,
+    x: usize,
+    y: usize,
+    value: u8,
+    room: &mut [usize],
+) -> u32
+    ensures status { result
+        ≡ code (flood_status (length cells.old) width height stride x y (length room.old)) }
+    ensures fills { Fills result (layout cells.old width height stride)
+        (layout cells.new width height stride) x y value }
+{
+    let claimed = ClaimedShape::new(width, height, stride);
+    regions::flood_fill(cells, claimed, (x, y), value, room).code()
+}
+
+/// Each of `labels` becomes the label of its region: 1, 2 and so on up to the number of regions, which
+/// goes to `count`. They are an image of the size of `cells`, at a stride of their own. Two places have
+/// one label exactly if they are connected: over sides, and over places that show the same pixel. `room`
+/// has a number for each place.
+#[unsafe(no_mangle)]
+pub extern "C" fn imgref_u8_components(
+    cells: &[u8],
+    width: usize,
+    height: usize,
+    stride: usize,
+    labels: &mut [u64],
+    labels_stride: usize,
+    room: &mut [usize],
+    count: &mut u64,
+) -> u32
+    ensures status { result ≡ code (labels_status (length cells.now) width height stride
+        (length labels.old) labels_stride (length room.old)) }
+    ensures labels { Labels result (layout cells.now width height stride)
+        (layout labels.old width height labels_stride)
+        (layout labels.new width height labels_stride) count.old count.new }
+{
+    let claimed = ClaimedShape::new(width, height, stride);
+    let claimed_labels = ClaimedShape::new(width, height, labels_stride);
+    regions::components(cells, claimed, labels, claimed_labels, room, count).code()
+}
+
+/// Writes to `around` the least window that has every place with a value. Where no place has it, that
+/// is the window of no pixel at the corner.
+#[unsafe(no_mangle)]
+pub extern "C" fn imgref_u8_bounding_box(
+    cells: &[u8],
+    width: usize,
+    height: usize,
+    stride: usize,
+    value: u8,
+    around: &mut Window,
+) -> u32
+    ensures status { result ≡ code (image_status (length cells.now) width height stride) }
+    ensures gives { Gives result around.old around.new
+        (IsBox (grid_of (layout cells.now width height stride)) value (as_window around.new)) }
+{
+    let claimed = ClaimedShape::new(width, height, stride);
+    regions::box_around(cells, claimed, value, around).code()
 }
