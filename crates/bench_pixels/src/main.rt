@@ -35,7 +35,10 @@ fn digest_of(rt: &HostRuntime) -> Result<u64, Fault> {
         rows::run(rt.alloc(), request.size, &mut numbers, &mut digest)?;
     }
     if request.includes(Job::Equal) {
-        rows::compare(rt.alloc(), request.size, &mut numbers, &mut digest)?;
+        rows::compare_long(rt.alloc(), request.size, &mut numbers, &mut digest)?;
+    }
+    if request.includes(Job::Short) {
+        rows::compare_short(rt.alloc(), request.size, &mut numbers, &mut digest)?;
     }
     if request.includes(Job::Strips) {
         strips::run(rt.alloc(), request.size, &mut numbers, &mut digest)?;

@@ -14,6 +14,8 @@ pub(crate) enum Job {
     Rows,
     /// Long rows that are compared.
     Equal,
+    /// Short rows that are compared.
+    Short,
     /// Turns by strips, and half turns, which have none.
     Strips,
 }
@@ -77,6 +79,7 @@ fn read_job(word: &str) -> Result<Option<Job>, Fault> {
         "means" => Ok(Some(Job::Means)),
         "rows" => Ok(Some(Job::Rows)),
         "equal" => Ok(Some(Job::Equal)),
+        "short" => Ok(Some(Job::Short)),
         "strips" => Ok(Some(Job::Strips)),
         _ => Err(Fault::Words),
     }

@@ -1,5 +1,5 @@
-//! Rows of bytes and of words that are cloned, and compared with their clones. And long rows that are
-//! only compared.
+//! Rows of bytes and of words that are cloned, and compared with their clones. And long and short rows
+//! that are only compared.
 
 ghost use Rattle.std.specs.Prelude.{◌≡◌};
 
@@ -70,8 +70,27 @@ pub(crate) fn run(
     Ok(())
 }
 
+// Compares two images of rows of so many pixels, so many times. All their pixels are this one.
+fn compare_rows<T: Copy + PartialEq>(
+    alloc: Global,
+    digest: &mut Digest,
+    pixel: T,
+    width: usize,
+    times: usize,
+) -> Result<(), Fault> {
+    let Some((padded, packed)) = shapes(width) else {
+        return Err(Fault::Input);
+    };
+    let cells = vec![in alloc; pixel; padded.stride().saturating_mul(padded.height())]?;
+    let others = vec![in alloc; pixel; packed.pixel_count()]?;
+    for _ in 0..times {
+        digest.add(u64::from(are_equal(&cells, padded, &others, packed)));
+    }
+    Ok(())
+}
+
 /// Compares two images of long rows of bytes, which are equal.
-pub(crate) fn compare(
+pub(crate) fn compare_long(
     alloc: Global,
     size: Size,
     numbers: &mut Numbers,
@@ -81,14 +100,27 @@ pub(crate) fn compare(
         Size::Full => (4096, 256),
         Size::Small => (300, 1),
     };
-    let Some((padded, packed)) = shapes(width) else {
-        return Err(Fault::Input);
-    };
     let byte = (numbers.next() & 255) as u8;
-    let cells = vec![in alloc; byte; padded.stride().saturating_mul(padded.height())]?;
-    let others = vec![in alloc; byte; packed.pixel_count()]?;
-    for _ in 0..times {
-        digest.add(u64::from(are_equal(&cells, padded, &others, packed)));
+    compare_rows(alloc, digest, byte, width, times)
+}
+
+/// Compares two images of short rows, which are equal: of bytes, of words and of pixels of three bytes.
+pub(crate) fn compare_short(
+    alloc: Global,
+    size: Size,
+    numbers: &mut Numbers,
+    digest: &mut Digest,
+) -> Result<(), Fault> {
+    let times = match size {
+        Size::Full => 16,
+        Size::Small => 1,
+    };
+    for width in [5, 12, 24] {
+        let number = numbers.next();
+        let (byte, word) = ((number & 255) as u8, (number & 0xffff_ffff) as u32);
+        compare_rows(alloc, digest, byte, width, times)?;
+        compare_rows(alloc, digest, word, width, times)?;
+        compare_rows(alloc, digest, [byte; 3], width, times)?;
     }
     Ok(())
 }
