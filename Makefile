@@ -12,7 +12,7 @@
 # make install PREFIX=..   builds and installs the library with both headers, both programs, man pages, and files for pkg-config and CMake
 # make web                 proves and builds the page that covers parts of a picture: out/web/index.html
 # make web-serve [PORT=..] the same, and serves it on this machine alone
-# make release             proves and builds all that a user has without the toolchain: out/release/ (docs/RELEASE.md)
+# make release             tries every planted bug, and builds all that a user has without the toolchain: out/release/ (docs/RELEASE.md)
 # make docs                writes docs/API.md and out/INNER.md: every public call with its contract
 # make exports             writes the exports for cells of 2, 4 and 8 bytes from those for one byte
 # make bench [BENCH=..]    times the calls and the program beside plain loops; BENCH: options of tools/bench.py
@@ -62,6 +62,7 @@ web-serve:
 	@python3 tools/web.py serve $(PORT)
 
 release:
+	@python3 .ci/planted_bugs.py --once
 	@python3 tools/release.py build
 
 docs:

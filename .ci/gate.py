@@ -13,10 +13,12 @@ Each part ends with 'N passed, M failed'. All that it said is in the folder out/
 a table of the parts, and then a line that adds them up. TERM, HUP and Ctrl-C end all parts.
 
 `rt ci` works on a copy of the repository without the planted bugs, so that it proves everything from nothing. The planted bugs
-are tried beside it, many in one check (planted_bugs.py).
+are tried beside it, many in one check (planted_bugs.py). A check over the same cached proofs that `test` has passed on these very
+files isn't run again by `gate`, and a line says so.
 """
 import contextlib
 import dataclasses
+import hashlib
 import os
 import pathlib
 import re
@@ -52,6 +54,8 @@ ENDED = re.compile(r"== (\w+(?:: its tests)?)$")
 PROGRESS, EVERY = re.compile(r"\d+:\d\d +[\d.]+ %"), 20
 TOLD = re.compile(r"rt: .*NOT PROVED|rt: .*FAILED|.*NOT REFUSED|.*FAILED")
 LOGS = ROOT / "out"
+# The sum of the files on which every part of `test` passed last.
+TESTED = LOGS / "tested"
 SAID = threading.Lock()
 
 
@@ -161,6 +165,26 @@ def cached_checks(without=()):
     return [it for it in every if it.name not in TIMED], [it for it in every if it.name in TIMED]
 
 
+def sum_of_files():
+    """The sum of all files that git has or would take, and of the kit's version. Nothing where git doesn't list them."""
+    listed = subprocess.run(["git", "-C", ROOT, "ls-files", "-z", "--cached", "--others", "--exclude-standard"], capture_output=True)
+    if listed.returncode:
+        return None
+    total = hashlib.sha256(subprocess.run(["rt", "version"], capture_output=True).stdout)
+    for name in sorted({*listed.stdout.split(b"\0")} - {b""}):
+        path = ROOT / os.fsdecode(name)
+        total.update(name + b"\0" + (hashlib.sha256(path.read_bytes()).digest() if path.is_file() else b"-"))
+    return total.hexdigest()
+
+
+def not_tested(*folders):
+    """The scripts of these folders that `test` doesn't run, where it passed on these very files. Without that it is all."""
+    if not TESTED.is_file() or TESTED.read_text() != sum_of_files():
+        return ()
+    say("make test passed on these very files: what it runs over cached proofs isn't run again")
+    return tuple(it.name for folder in folders for it in folder.glob("*.py") if it.name not in GATE_ALONE)
+
+
 def side_by_side(lines):
     """Runs lines of parts side by side, the parts of each one after the other. What waits for a part that failed runs too. A
     list in a line is of lines again."""
@@ -226,7 +250,8 @@ def gate(parts, only):
         release = Part(RELEASE, [sys.executable, str(CHECKS / "built" / RELEASE)])
         proofs = Part("cached proofs", building(*(it for it in crates() if (ROOT / "crates" / it / "must-fail").is_dir())), counts=False, nice=0)
         bugs = Part("planted bugs", [sys.executable, str(ROOT / ".ci/planted_bugs.py"), *only], nice=0)
-        (cached, timed), beside = cached_checks(), scripts(CHECKS)
+        tested = not_tested(CHECKS, CHECKS / "proofs")
+        (cached, timed), beside = cached_checks(without=tested), scripts(CHECKS, without=tested)
         parts += [of_ci, *built, proofs, bugs, *cached, release, *beside, *timed]
         side_by_side([[of_ci, [[it] for it in built]], [proofs, [[bugs], [*cached, release]]], beside])
         side_by_side([timed])
@@ -262,11 +287,16 @@ def main(words):
         sys.exit(__doc__)
     began, parts = time.monotonic(), []
     LOGS.mkdir(exist_ok=True)
+    if words[0] == "test":
+        TESTED.unlink(missing_ok=True)
+        files = sum_of_files()
     say(f"About {MINUTES[words[0]]} minutes from nothing on four processors (here: {len(os.sched_getaffinity(0))}), less with cached proofs.")
     with Memory(parts) as memory:
         ways[words[0]](parts, only)
     passed, failed = sum(it.passed for it in parts), sum(it.failed for it in parts)
     say(table(parts, memory.most, began))
+    if words[0] == "test" and not failed and files and files == sum_of_files():
+        TESTED.write_text(files)
     say(f"{passed} passed, {failed} failed")
     return failed > 0
 

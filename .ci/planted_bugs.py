@@ -1,7 +1,7 @@
 #!/usr/bin/env python3
 """Tries the planted bugs, crates/*/must-fail/*.edit: the prover must refuse each at a goal of the function that it changes.
 
-    planted_bugs.py [CRATE..] [--only NAME] [--changed [COMMIT]] [--landing] [--list] [--compile]
+    planted_bugs.py [CRATE..] [--only NAME] [--changed [COMMIT]] [--landing] [--once] [--list] [--compile]
 
 A function's proof cites the contracts of others and not their bodies. So many bugs are tried in one check, and each is judged
 by the goals that stay open in its own function. Several bugs of one function are several copies of it, each with a name of its
@@ -15,6 +15,7 @@ then refused by a proof by hand alone is counted and said.
 The crates are proved first, where their cached proofs are not fresh, and are only read: each check runs in a room of its own.
 With --changed only those bugs are tried that a difference from a commit affects (the last one that is on origin/main, else HEAD),
 as changed.py tells. With --landing it is those that a change since the last release affects, and a tenth of the others. With
+--once none is tried where all were refused before at these very texts of the crates, as by `make gate`. With
 --compile nothing is proved: it tells in a few minutes which bugs don't compile any more, for example because an item was renamed.
 The last line counts the bugs.
 """
@@ -29,9 +30,10 @@ import sys
 sys.path.insert(0, str(pathlib.Path(__file__).resolve().parent.parent / "tools"))
 from bugs import batches, plant, read
 from changed import affected, for_landing
-from processes import end_on_signals, workers
+from packing import sum_of, sum_of_tree
+from processes import end_on_signals, run_to_end, workers
 from proving import Failed, Progress, all_below, processors, prove_changed, run, weights_of
-from workspace import ROOT, crates, room, with_those_below
+from workspace import PARTS, ROOT, crates, room, with_those_below
 
 GOAL = re.compile(r"note: (?:\./)?(src/\S+?):(\d+):\d+: ")
 STALE = re.compile(r"(?:note: )?(?:\./)?(proofs/\S+/Answers\.antt):\d+:\d+: error: `([^`]*)`")
@@ -40,6 +42,8 @@ ERROR = re.compile(r"(?:\./)?(\S+?):\d+:\d+: error: (?:(`[^`]*`): )?(.*)")
 UNREADABLE = re.compile(r"is not in scope|has no field|is no name|operand is missing|expected the end|cannot continue")
 # No function has this name. A check of it alone compiles the crate, says that there is none, and proves nothing.
 NO_FUNCTION = "no_such_function"
+# The sum of the crates' texts at which all planted bugs were refused last.
+REFUSED = ROOT / "out/planted_bugs_refused"
 HARDLY = re.compile(r"(?:\./)?proofs/.*(?:has no field|is not in scope|has no `|was not admitted)")
 
 
@@ -157,15 +161,27 @@ def all_bugs(names, only):
     return good, bad
 
 
+def sum_of_crates():
+    """The sum of all texts of the crates, the planted bugs with them, and of the toolchain's version."""
+    folders = [ROOT / "crates" / name / part for name in crates() for part in (*PARTS, "must-fail")]
+    return sum_of("".join([run_to_end(["rt", "version"]).stdout, *map(sum_of_tree, filter(pathlib.Path.is_dir, folders))]).encode())
+
+
 def main():
     asked = argparse.ArgumentParser(description=__doc__, formatter_class=argparse.RawDescriptionHelpFormatter)
     asked.add_argument("crates", nargs="*")
     asked.add_argument("--only", action="append", default=[], metavar="NAME")
     asked.add_argument("--changed", nargs="?", const="", default=None, metavar="COMMIT")
     asked.add_argument("--landing", action="store_true", help="those that a change since the last release affects, and a tenth of the others")
+    asked.add_argument("--once", action="store_true", help="tries none where all were refused at these texts before")
     asked.add_argument("--list", action="store_true", help="prints the bugs of each check, and tries none")
     asked.add_argument("--compile", action="store_true", help="compiles the bugs, and proves nothing")
     asked = asked.parse_args()
+    tries_all = not (asked.crates or asked.only or asked.changed is not None or asked.landing or asked.list or asked.compile)
+    now = sum_of_crates() if tries_all else ""
+    if asked.once and tries_all and REFUSED.is_file() and REFUSED.read_text(encoding="utf-8") == now:
+        print("all planted bugs were refused at these texts before")
+        return 0
     bugs, bad = all_bugs(asked.crates or [*crates()], asked.only)
     print(*bad, sep="\n", end="\n" if bad else "")
     passed, failed = 0, len(bad)
@@ -193,6 +209,9 @@ def main():
                 passed, failed = passed + is_refused, failed + (not is_refused)
                 print(line, flush=True)
     print(f"{passed} passed, {failed} failed")
+    if tries_all and passed and not failed:
+        REFUSED.parent.mkdir(exist_ok=True)
+        REFUSED.write_text(now, encoding="utf-8")
     return 1 if failed or not passed and asked.changed is None else 0
 
 

@@ -1,8 +1,12 @@
 """Runs what the pages show: Python as doctest, C, C++, Rust, commands of a shell over small made inputs, and a filter that is proved.
 
-A block of code is a run of lines that are indented by four spaces, with the empty lines between them. What it is written in, it
-says itself: by `>>> `, by a header of the library, by a name of our Rust package, or by a call of the video program. Part of a C++
-or Rust program gets a `main` around it. A line that a program prints is on its page.
+A block of code is a run of lines that are indented by four spaces, with the empty lines between them, or what is between three
+backticks. In a man page it is an example. What it is written in, it says itself: by `>>> `, by a header of the library, by a name
+of our Rust package, or by a call of a program. Part of a C++ or Rust program gets a `main` around it. A line that a program prints
+is on its page.
+
+Every other block has a row in OTHERS, which names the check that tries it, or says why nothing does. A block without a row fails,
+and so does a row without a block.
 
 What isn't built, or what the machine lacks, is named as skipped with the reason, and counts as neither.
 """
@@ -24,13 +28,41 @@ import c_library
 from python_package import HOOK
 
 CODE = re.compile(r"(?:^    .*\n(?:[ \t]*\n(?=    ))*)+", re.MULTILINE)
+FENCED = re.compile(r"(?ms)^```\w*\n(.*?)^```$")
+EXAMPLE = re.compile(r"(?ms)^\.EX\n(.*?)^\.EE$")
 PYTHONS = (sys.executable, "/usr/bin/python3")
 DOCTEST = "import doctest, sys; failed, tried = doctest.testfile(sys.argv[1], module_relative=False, optionflags=doctest.ELLIPSIS); print(f'{tried - failed} passed, {failed} failed')"
 HEADERS = "".join(f"#include <{it}>\n" for it in ("array", "cstdint", "cstdio", "vector", "imgref.hpp"))
 CARGO = '[package]\nname = "shown"\nversion = "0.0.0"\nedition = "2021"\n[dependencies]\nimgref-proved = {{ path = "{}" }}\n'
-# The tools that recipes use, and those that others run with a detector in them.
-TOOLS = ("ffmpeg", "pngtopnm", "pnmtopng", "pnmdepth", "parallel", "imgref-boxes")
-ELSEWHERE = {"examples/": "recipes with a detector", "imgref-boxes": "recipes with a detector's list"}
+# The tools that recipes use.
+TOOLS = ("ffmpeg", "pngtopnm", "pnmtopng", "pnmdepth", "parallel")
+# The blocks that aren't run here as they are: a page, how they begin, and what tries them, or why nothing does.
+OTHERS = [
+    ("README.md", "make python ", "proofs/bindings.py"),
+    ("README.md", "rt new ", "run_filter"),
+    ("README.md", "#![tactic", "run_filter"),
+    ("CONTRIBUTING.md", "apt-get ", "nothing: it changes the machine"),
+    ("docs/ARCHITECTURE.md", "programs ", "nothing: it is a map"),
+    ("docs/C.md", "make c ", "proofs/c_library.py"),
+    ("docs/CALLERS.md", "//! Three functions", "run_filter"),
+    ("docs/CALLERS.md", "note: ", "run_filter: the goal's name"),
+    ("docs/CALLERS.md", "", "the gate: it is a copy of proved code"),
+    ("docs/CALLERS_REFERENCE.md", "", "the gate: it is a copy of proved code"),
+    ("docs/DECISIONS.md", "", "nothing: a part of a program that the checker refuses"),
+    ("docs/FRAMES.md", "set -o pipefail", "built/recipes.py"),
+    ("docs/FRAMES.md", "imgref-boxes ", "built/detector_lists.py"),
+    ("docs/PERF.md", "cd ", "nothing: it proves an old commit, for 25 minutes"),
+    ("docs/PYTHON.md", "make python", "proofs/bindings.py"),
+    ("docs/RELEASE.md", "make test ", "built/release.py"),
+    ("docs/RELEASE.md", "sha256sum ", "built/release.py"),
+    ("docs/RUST.md", "tar ", "built/release.py"),
+    ("docs/SCRIPT.md", "", "snippets.py, by the model"),
+    ("docs/WEB.md", "make web", "proofs/web.py"),
+    ("man/imgref-boxes.1", "imgref-boxes ", "built/detector_lists.py"),
+    ("man/imgref.3", "uint8_t cells", "nothing: a part of the first program of docs/C.md"),
+    ("man/imgref.3", "cc ", "built/release.py"),
+    ("man/imgref_frames.1", "ffmpeg -i in.mp4 -f yuv4mpegpipe - |\n    imgref_frames --boxes", "built/recipes.py"),
+]
 # The small inputs of recipes, by what makes each.
 MADE = {
     "in.mp4": "ffmpeg -v error -f lavfi -i testsrc2=size=480x270:rate=5:duration=1 -f lavfi -i sine=duration=1 {}",
@@ -47,8 +79,25 @@ def skip(label, reason):
 
 def blocks(page):
     """The blocks of code of a page, without what they are indented by."""
-    text = re.sub(r"(?ms)^```.*?^```$", "", page.read_text())
-    return ["\n".join(line[4:] for line in it.splitlines()).rstrip() + "\n" for it in CODE.findall(text)]
+    text = page.read_text()
+    if page.parent.name == "man":
+        return [it.replace("\\-", "-").replace("\\e", "\\") for it in EXAMPLE.findall(text)]
+    indented = CODE.findall(FENCED.sub("", text))
+    return FENCED.findall(text) + ["\n".join(line[4:] for line in it.splitlines()).rstrip() + "\n" for it in indented]
+
+
+def other(page, block):
+    """The row of OTHERS that a block has, or nothing."""
+    return next((it for it in OTHERS if it[0] == str(page.relative_to(ROOT)) and block.startswith(it[1])), None)
+
+
+def each_is_tried(cases, pages):
+    """Each block is run here, or has a row of OTHERS, and each row has a block."""
+    found = [(page, block, other(page, block)) for page in pages for block in blocks(page)]
+    lost = [f"{page.relative_to(ROOT)}: {block.splitlines()[0]}" for page, block, row in found if not row and not language(block)]
+    stale = [it for it in OTHERS if it not in [row for _, _, row in found]]
+    cases.count(f"{len(found)} blocks of code: each is run, or OTHERS says what tries it", not lost, "not run: " + ", ".join(lost))
+    cases.count("each row of OTHERS has a block", not stale, f"without one: {stale}")
 
 
 def language(block):
@@ -61,7 +110,7 @@ def language(block):
         return "C++"
     if "#include <imgref.h>" in block:
         return "C"
-    return "shell" if re.search(r"(?m)^[^#\n]*\bimgref_frames (?:-|--\w|[a-z]+ )", block) and "image " not in block else ""
+    return "shell" if re.search(r"(?m)^[^#\n]*\bimgref_frames (?:-|--\w|[a-z]+ )|\| imgref_run$", block) else ""
 
 
 def said_on(page, wrote):
@@ -140,19 +189,17 @@ def outputs(block):
     return [it for it in re.findall(r"(?:> ?|-o |-i - (?:[^|\n]* )?)([\w.-]+\.(?:png|ppm|mp4|y4m))", block)]
 
 
-def run_shell(cases, page, block, folder, program):
+def run_shell(cases, page, block, folder, programs):
     """Commands of a page, in a folder with small inputs. They end with status 0, and what they write is there."""
     label = f"{page.relative_to(ROOT)}: {block.splitlines()[0][:70]} .."
-    for word, why in ELSEWHERE.items():
-        if word in block:
-            return skip(label, f"another check runs {why}")
     missing = [it for it in TOOLS if re.search(rf"\b{it}\b", block) and not shutil.which(it)]
     if missing or not shutil.which("ffmpeg"):
         return skip(label, f"no {' and no '.join(missing or ['ffmpeg'])}")
     at = pathlib.Path(tempfile.mkdtemp(dir=folder))
     for name in ("in", "out", "bin"):
         (at / name).mkdir()
-    (at / "bin/imgref_frames").symlink_to(program)
+    for it in programs:
+        (at / "bin" / it.name).symlink_to(it)
     (at / "docs").symlink_to(ROOT / "docs")
     for name, how in MADE.items():
         if re.search(rf"\b{re.escape(name)}\b", block) or name.startswith("in/") and f"in/*{pathlib.Path(name).suffix}" in block:
@@ -204,8 +251,8 @@ def run_filter(cases):
 
 def run_all(cases, pages):
     """What the pages show, language by language."""
-    shown = [(page, block) for page in pages for block in blocks(page) if language(block)]
-    program = next(iter(built("imgref_frames", ("",))), None)
+    shown = [(page, block) for page in pages for block in blocks(page) if language(block) and not other(page, block)]
+    programs = [*built("imgref_frames", ("",)), *built("imgref_run", ("",))]
     with tempfile.TemporaryDirectory(prefix="shown-", ignore_cleanup_errors=True) as folder:
         folder = pathlib.Path(folder)
         if is_proved(c_library.NAME) and shutil.which("objcopy"):
@@ -219,8 +266,8 @@ def run_all(cases, pages):
         else:
             skip("C, C++, Python and Rust", "the library for C isn't built")
         for page, block in shown:
-            if language(block) == "shell" and program:
-                run_shell(cases, page, block, folder, program)
-    if not program:
-        skip("commands of a shell", "imgref_frames isn't built")
+            if language(block) == "shell" and len(programs) == 2:
+                run_shell(cases, page, block, folder, programs)
+    if len(programs) != 2:
+        skip("commands of a shell", "the programs aren't built")
     run_filter(cases)

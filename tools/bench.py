@@ -39,6 +39,8 @@ OUT = ROOT / "out/bench"
 PAGE, TABLES, PLOT = ROOT / "docs/PERFORMANCE.md", ROOT / "bench/tables.md", ROOT / "docs/speed.svg"
 BEGIN, END = "<!-- table of make bench -->", "<!-- end of the table -->"
 OTHERS, OTHERS_END = "<!-- table beside OpenCV and NumPy -->", "<!-- end of that table -->"
+# The sides and the bytes of a pixel of that table which docs/PERFORMANCE.md shows.
+OTHERS_SIDES, OTHERS_BYTES = (64, 512, 2048), (1, 3, 4)
 # The processor that rt builds for, which rustc is told too.
 RUST = ["rustc", "--edition", "2021", "-C", "opt-level=3", "-C", "target-cpu=x86-64-v2", "-C", "panic=abort", "-C", "codegen-units=1"]
 # How often each program runs on each script and each video.
@@ -255,14 +257,18 @@ def others():
     shutil.rmtree(OUT / "package", ignore_errors=True)
     with zipfile.ZipFile(python_package.build(python)) as wheel:
         wheel.extractall(OUT / "package")
+    if built("bench_exports"):
+        raise Failure("what is timed is not proved")
+    command(*compiler(), "-shared", "-o", OUT / "libbench.so", "-Wl,--whole-archive", product("bench_exports"), "-Wl,--no-whole-archive", *toolchain())
     before = os.getloadavg()[0]
-    ran = run_to_end([python, "-B", ROOT / "bench/beside.py"], env=os.environ | {"PYTHONPATH": str(OUT / "package")})
+    ran = run_to_end([python, "-B", ROOT / "bench/beside.py"], env=os.environ | {"PYTHONPATH": str(OUT / "package"), "IMGREF_BENCH": str(OUT / "libbench.so")})
     if ran.returncode:
         raise Failure(f"bench/beside.py failed:\n{ran.stdout}{ran.stderr}")
     first, *lines = (it.split("\t") for it in ran.stdout.splitlines())
     measured = f"Measured on {commit()}, {time.strftime('%Y-%m-%d')}, beside {' '.join(first)}. Load average over a minute before the timing: {before:.2f}, after it: {os.getloadavg()[0]:.2f}."
     rows = [(name, int(channels), int(side), time, quotient) for name, channels, side, time, quotient in lines]
-    return [f"{measured}\n\n{table}" for table in (others_table(rows, (64, 512, 2048), False), others_table(rows, sorted({it[2] for it in rows})))]
+    shown = [it for it in rows if it[1] in OTHERS_BYTES]
+    return [f"{measured}\n\n{table}" for table in (others_table(shown, OTHERS_SIDES, False), others_table(rows, sorted({it[2] for it in rows})))]
 
 
 def first_line(*words):

@@ -1,7 +1,8 @@
 """What must hold of a release before anyone has it: faults() lists what doesn't.
 
 No file names a folder of the machine that built it, each library shows the header's names alone and needs nothing newer than
-glibc 2.17, each wheel has the tag of what is in it, and each file has its sum in SHA256SUMS.
+glibc 2.17, each wheel has the tag of what is in it, no page leads to a file that isn't there, and each file has its sum in
+SHA256SUMS.
 """
 import base64
 import hashlib
@@ -136,6 +137,13 @@ def wheel(name, files):
             yield f"{name}: {it} has another sum"
 
 
+def links(folder, name, files):
+    """Where a page leads to, and there is no such file."""
+    for it in re.findall(rb'\bhref="([\w./-]+)"', files.get(name, b"") if name.endswith(".html") else b""):
+        if not (folder / it.decode()).is_file():
+            yield f"{name} leads to {it.decode()}"
+
+
 def wrong_sums(folder):
     """The files whose sum isn't in SHA256SUMS, and what that names besides."""
     due = {it: digest for digest, it in re.findall(r"(?m)^(\w{64})  (\S+)$", (folder / SUMS).read_text())}
@@ -150,6 +158,7 @@ def faults(folder):
     for path in sorted(folder.iterdir()):
         files = unpacked(path)
         yield from paths(path.name, files)
+        yield from links(folder, path.name, files)
         if path.suffix == ".whl":
             yield from wheel(path.name, files)
         elif path.suffix == ".crate":

@@ -120,7 +120,7 @@ def build():
     rust_package.build(folder)
     debian.build(folder, seconds)
     web.build()
-    shutil.copyfile(web.OUT / "index.html", folder / PAGE)
+    (folder / PAGE).write_text(web.alone())
     (folder / "PROVENANCE.json").write_text(json.dumps(provenance(folder), indent=2) + "\n")
     sums = "".join(f"{sum_of(it.read_bytes())}  {it.name}\n" for it in sorted(folder.iterdir()))
     (folder / inspection.SUMS).write_text(sums)

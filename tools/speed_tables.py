@@ -11,7 +11,7 @@ SAME_WORK = {0: "loop in C", 2: "loop in Rust", 3: "original crate"}
 SHOWN = (16, 64, 2048)
 # What the table beside other libraries has, in bench/tables.md and in docs/PERFORMANCE.md.
 OTHERS = "Each on one thread, from Python, on square images of these sides. First come the nanoseconds a pixel here. After the dot is this time divided by that of the faster one of the two."
-OTHERS_SHOWN = "Each on one thread, from Python, on square images. A number is our time divided by that of the faster one of OpenCV and NumPy: below 1 we are faster."
+OTHERS_SHOWN = "On one thread, from Python: our time divided by that of the faster one of OpenCV and NumPy. Below 1 we are faster."
 # A call is faster than a comparison below the first quotient, and slower above the second. Above the third one it is named.
 FASTER, SLOWER, NAMED = 0.95, 1.05, 1.25
 
@@ -145,10 +145,15 @@ def plot(rows, sides):
 
 def others_table(rows, sides, shows_times=True):
     """The package for Python beside other libraries: a row for each call, a column for each side and size of a pixel. A cell has the
-    quotient, and before it the time where that is wanted."""
-    names = {name: None for name, *_ in rows}
+    quotient, and before it the time where that is wanted. Without times, calls on bytes alone have a table of their own."""
     found = {tuple(it[:3]): f"{it[3]} · {it[4]}" if shows_times else it[4] for it in rows}
-    columns = [(channels, side) for side in sides for channels in sorted({it[1] for it in rows})]
-    head = ["Call", *(f"{side}: {channels} byte{'s' * (channels != 1)}" for channels, side in columns)]
-    lines = [[name, *(found.get((name, *it), "–") for it in columns)] for name in names]
-    return f"{OTHERS if shows_times else OTHERS_SHOWN}\n\n{markdown(head, lines)}"
+    sizes = sorted({it[1] for it in rows})
+    kinds = {name: [size for size in sizes if (name, size, sides[0]) in found] for name in dict.fromkeys(it[0] for it in rows)}
+    parts = [sizes] if shows_times else [sizes, *([it] for it in sizes if [it] in kinds.values())]
+    made = [OTHERS if shows_times else OTHERS_SHOWN]
+    for part in parts:
+        columns = [(size, side) for side in sides for size in part]
+        head = ["Call", *(f"{side}: {size} byte{'s' * (size != 1)}" for size, side in columns)]
+        names = [name for name, kind in kinds.items() if shows_times or kind == part]
+        made.append(markdown(head, [[name, *(found.get((name, *it), "–") for it in columns)] for name in names]))
+    return "\n\n".join(made)

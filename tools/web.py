@@ -33,6 +33,8 @@ PAGES = {
     "index.html": ("picture.html", "layout.html", "Layouts"),
     "layout.html": ("layout.html", "index.html", "Pictures"),
 }
+# The link from one page to the other.
+LINK = re.compile(r"<nav>.*?</nav>\n")
 CLAIM = "The page has no code that sends, and asks your browser to refuse it."
 # What a page may do, besides the scripts and styles that it holds.
 POLICY = (
@@ -166,6 +168,11 @@ def page(name, other, goes, sources=SOURCES):
         "STYLE": around, "OTHER": other, "GOES": goes, "PAGE": html.escape(text).replace("&#x27;", "'"),
     }
     return re.sub(r"\b[A-Z]{4,}\b", lambda it: values.get(it[0], it[0]), frame)
+
+
+def alone():
+    """The page for pictures as a release has it, which has no other page."""
+    return LINK.sub("", page(*PAGES["index.html"]))
 
 
 def build():

@@ -227,6 +227,78 @@ static imgref_status one_tile(struct sizes is) {
 #define TEXT "u64 "
 #include "cells.h"
 
+/* ---- values and sums of images of bytes */
+
+/* The counts of one image, with a number after them that no call may change. */
+#define HISTOGRAM(BITS, CELL)                                                                                                \
+    static imgref_status one_histogram_##BITS(struct sizes is) {                                                             \
+        struct of_##BITS##_image it = of_##BITS##_made(is);                                                                  \
+        static uint64_t counts[(1 << BITS) + 1], wanted_counts[(1 << BITS) + 1];                                             \
+        for (size_t k = 0; k <= 1 << BITS; k++) counts[k] = wanted_counts[k] = 77;                                           \
+        imgref_status wanted = is_image(is) ? IMGREF_OK : IMGREF_NOT_AN_IMAGE;                                               \
+        if (wanted == IMGREF_OK) memset(wanted_counts, 0, sizeof(uint64_t) << BITS);                                         \
+        if (wanted == IMGREF_OK && is.width)                                                                                 \
+            for (size_t y = 0; y < is.height; y++)                                                                           \
+                for (size_t x = 0; x < is.width; x++) wanted_counts[of_##BITS##_was(&it, x, y)]++;                           \
+        imgref_status status = imgref_u##BITS##_histogram(it.cells, is.len, is.width, is.height, is.stride, counts);         \
+        tell(of_##BITS##_left(&it, of_##BITS##_copy(&it), status, wanted) && !memcmp(counts, wanted_counts, sizeof counts)); \
+        of_##BITS##_freed(it);                                                                                               \
+        return status;                                                                                                       \
+    }
+HISTOGRAM(8, uint8_t)
+HISTOGRAM(16, uint16_t)
+
+/* How many pixels are at most a value is counted for each place anew. */
+static imgref_status one_equalize(struct sizes is) {
+    struct of_8_image it = of_8_made(is);
+    uint8_t *expected = of_8_copy(&it);
+    imgref_status wanted = is_image(is) ? IMGREF_OK : IMGREF_NOT_AN_IMAGE;
+    if (wanted == IMGREF_OK && is.width)
+        for (size_t y = 0; y < is.height; y++)
+            for (size_t x = 0; x < is.width; x++) {
+                size_t part = 0;
+                for (size_t v = 0; v < is.height; v++)
+                    for (size_t u = 0; u < is.width; u++) part += of_8_was(&it, u, v) <= of_8_was(&it, x, y);
+                of_8_set(expected, &it, x, y, (uint8_t)(255 * part / (is.width * is.height)));
+            }
+    imgref_status status = imgref_u8_equalize(it.cells, is.len, is.width, is.height, is.stride);
+    tell(of_8_left(&it, expected, status, wanted));
+    of_8_freed(it);
+    return status;
+}
+
+/* An image of this size for results, at a stride of its own. Now and then its stride or length is wrong. */
+static struct sizes any_results(struct sizes is) {
+    struct sizes made = {.width = is.width, .height = is.height, .stride = 1};
+    if (is.width < 64 && is.height < 64) made = sized(is.width, is.height);
+    if (any() % 8) return made;
+    if (any() % 2) made.stride = any_number();
+    else made.len -= made.len ? any() % made.len + 1 : 0;
+    return made;
+}
+
+static imgref_status one_integral(struct sizes is) {
+    struct sizes other = any_results(is);
+    struct of_8_image it = of_8_made(is);
+    struct of_64_image areas = of_64_made(other);
+    uint64_t *expected = of_64_copy(&areas);
+    imgref_status wanted = !is_image(is) || !is_image(other) ? IMGREF_NOT_AN_IMAGE : IMGREF_OK;
+    if (wanted == IMGREF_OK && is.width)
+        for (size_t y = 0; y < is.height; y++)
+            for (size_t x = 0; x < is.width; x++) {
+                uint64_t sum = 0;
+                for (size_t v = 0; v <= y; v++)
+                    for (size_t u = 0; u <= x; u++) sum += of_8_was(&it, u, v);
+                of_64_set(expected, &areas, x, y, sum);
+            }
+    imgref_status status = imgref_u8_integral(it.cells, is.len, is.width, is.height, is.stride, areas.cells, other.len, other.stride);
+    bool kept = of_8_left(&it, of_8_copy(&it), 0, 0);
+    tell(of_64_left(&areas, expected, status, wanted) && kept);
+    of_8_freed(it);
+    of_64_freed(areas);
+    return status;
+}
+
 /* ---- rows worked out by hand: 3 by 2 at stride 4, where the cells 3, 7 and 8 are padding */
 
 static void by_hand(void) {
@@ -260,6 +332,11 @@ static void by_hand(void) {
     count("by hand: turn", imgref_u8_turn(square, 8, 1, 2, 5, 2, IMGREF_HALF) == IMGREF_OK && !memcmp(square, (uint8_t[]){5, 6, 3, 4, 90, 1, 2, 7}, 8));
     count("by hand: transpose", imgref_u8_transpose(square, 8, 2, 2, 3, 1) == IMGREF_OK && !memcmp(square, (uint8_t[]){5, 4, 3, 6, 90, 1, 2, 7}, 8));
     count("by hand: no square", imgref_u8_turn(square, 8, 1, 2, 5, 2, IMGREF_RIGHT) == IMGREF_SIZES_DIFFER && square[0] == 5);
+    uint8_t low[7] = {10, 10, 20, 99, 30, 20, 20};
+    uint64_t sums[6], counts[256];
+    count("by hand: histogram", imgref_u8_histogram(low, 7, 3, 2, 4, counts) == IMGREF_OK && counts[10] == 2 && counts[20] == 3 && counts[30] == 1 && counts[99] == 0);
+    count("by hand: integral", imgref_u8_integral(low, 7, 3, 2, 4, sums, 6, 3) == IMGREF_OK && !memcmp(sums, (uint64_t[]){10, 20, 40, 40, 70, 110}, sizeof sums));
+    count("by hand: equalize", imgref_u8_equalize(low, 7, 3, 2, 4) == IMGREF_OK && !memcmp(low, (uint8_t[]){85, 85, 212, 99, 255, 212, 212}, 7));
     count("by hand: no cell", imgref_u8_fill_window(&pixel, 0, 0, 5, 1, (struct imgref_window){0, 2, 0, 3}, 7) == IMGREF_OK && pixel == 6);
 }
 
@@ -289,6 +366,10 @@ int main(void) {
     of_16_all_calls();
     of_32_all_calls();
     of_64_all_calls();
+    series("u8 histogram", one_histogram_8, 1u << IMGREF_OK | 1u << IMGREF_NOT_AN_IMAGE);
+    series("u16 histogram", one_histogram_16, 1u << IMGREF_OK | 1u << IMGREF_NOT_AN_IMAGE);
+    series("u8 equalize", one_equalize, 1u << IMGREF_OK | 1u << IMGREF_NOT_AN_IMAGE);
+    series("u8 integral", one_integral, 1u << IMGREF_OK | 1u << IMGREF_NOT_AN_IMAGE);
     printf("%u passed, %u failed\n", passed, failed);
     return failed || !passed;
 }

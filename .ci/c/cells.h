@@ -399,6 +399,128 @@ static imgref_status MINE(one_equal)(struct sizes is) {
     return status;
 }
 
+/* Pixels of few values, so that some are connected. */
+static struct MINE(image) MINE(made_of_few)(struct sizes is) {
+    struct MINE(image) it = MINE(made)(is);
+    const size_t values = 1 + any() % 3;
+    for (size_t k = 0; k < is.len; k++) it.cells[k] = (CELL)(it.cells[k] % values);
+    memcpy(it.old, it.list, it.all * sizeof(CELL));
+    return it;
+}
+
+/* Which places are connected with one is found by going over all places, as often as one more is found. */
+static void MINE(find_connected)(const struct MINE(image) *it, size_t x, size_t y, bool *found) {
+    const size_t width = it->is.width, height = it->is.height;
+    bool goes_on = true;
+    memset(found, 0, width * height);
+    found[y * width + x] = true;
+    while (goes_on) {
+        goes_on = false;
+        for (size_t v = 0; v < height; v++)
+            for (size_t u = 0; u < width; u++) {
+                bool *is = &found[v * width + u];
+                bool beside = (u && is[-1]) || (u + 1 < width && is[1]) || (v && *(is - width)) || (v + 1 < height && is[width]);
+                if (!*is && beside && MINE(was)(it, u, v) == MINE(was)(it, x, y)) goes_on = *is = true;
+            }
+    }
+}
+
+/* A room, now and then with a number too few, whose last number no call may change. */
+static size_t *MINE(room_of)(struct sizes is, size_t *len) {
+    *len = is.width < 64 && is.height < 64 ? is.width * is.height : 0;
+    *len = any() % 8 ? *len + any() % 3 : *len - (*len ? any() % *len : 0);
+    size_t *room = malloc((*len + 1) * sizeof *room);
+    if (!room) abort();
+    for (size_t k = 0; k <= *len; k++) room[k] = 77;
+    return room;
+}
+
+static bool MINE(has_room)(struct sizes is, size_t len) { return (unsigned __int128)is.width * is.height <= len; }
+
+static imgref_status MINE(one_flood_fill)(struct sizes is) {
+    struct MINE(image) it = MINE(made_of_few)(is);
+    size_t x = near(is.width), y = near(is.height), len, *room = MINE(room_of)(is, &len);
+    CELL value = (CELL)(any() % 4), *expected = MINE(copy)(&it);
+    bool found[144];
+    imgref_status wanted = !is_image(is)                              ? IMGREF_NOT_AN_IMAGE
+                           : x >= is.width || y >= is.height          ? IMGREF_PLACE_OUTSIDE
+                           : !MINE(has_room)(is, len)                 ? IMGREF_NO_ROOM
+                                                                      : IMGREF_OK;
+    if (wanted == IMGREF_OK) {
+        MINE(find_connected)(&it, x, y, found);
+        for (size_t v = 0; v < is.height; v++)
+            for (size_t u = 0; u < is.width; u++)
+                if (found[v * is.width + u]) MINE(set)(expected, &it, u, v, value);
+    }
+    imgref_status status = OF(flood_fill)(it.cells, is.len, is.width, is.height, is.stride, x, y, value, room, len);
+    tell(MINE(left)(&it, expected, status, wanted) && room[len] == 77);
+    free(room);
+    MINE(freed)(it);
+    return status;
+}
+
+/* The labels are numbers of eight bytes between cells that no call may change. Each place is compared with each. */
+static imgref_status MINE(one_components)(struct sizes is) {
+    struct MINE(image) it = MINE(made_of_few)(is);
+    size_t len, *room = MINE(room_of)(is, &len), labels_stride = is.width < 64 ? is.width + any() % 3 : is.width;
+    labels_stride += !labels_stride;
+    size_t labels_len = is.width && is.height && is.width < 64 && is.height < 64 ? labels_stride * (is.height - 1) + is.width : 0;
+    if (any() % 8 == 0) labels_len -= labels_len ? any() % labels_len : 0;
+    uint64_t labels[GUARD * 14], before[GUARD * 14], regions = 88;
+    for (size_t k = 0; k < GUARD * 14; k++) before[k] = labels[k] = any();
+    struct sizes other = {.len = labels_len, .width = is.width, .height = is.height, .stride = labels_stride};
+    imgref_status wanted = !is_image(is) || !is_image(other) ? IMGREF_NOT_AN_IMAGE : !MINE(has_room)(is, len) ? IMGREF_NO_ROOM : IMGREF_OK;
+    imgref_status status = OF(components)(it.cells, is.len, is.width, is.height, is.stride, labels + GUARD, labels_len, labels_stride, room, len, &regions);
+    bool is_well = MINE(left)(&it, MINE(copy)(&it), status, wanted) && room[len] == 77;
+    if (wanted == IMGREF_OK) {
+        bool found[144];
+        uint64_t most = 0;
+        const size_t rows = is.width ? is.height : 0;
+        for (size_t y = 0; y < rows; y++)
+            for (size_t x = 0; x < is.width; x++) {
+                const uint64_t label = labels[GUARD + y * labels_stride + x];
+                MINE(find_connected)(&it, x, y, found);
+                for (size_t v = 0; v < is.height; v++)
+                    for (size_t u = 0; u < is.width; u++) is_well = is_well && found[v * is.width + u] == (labels[GUARD + v * labels_stride + u] == label);
+                /* (the first place of each region gets the next label) */
+                is_well = is_well && label >= 1 && label <= most + 1;
+                most = label > most ? label : most;
+            }
+        is_well = is_well && regions == most;
+        for (size_t y = 0; y < rows; y++)
+            for (size_t x = 0; x < is.width; x++) labels[GUARD + y * labels_stride + x] = before[GUARD + y * labels_stride + x];
+    } else is_well = is_well && regions == 88;
+    tell(is_well && !memcmp(labels, before, sizeof labels));
+    free(room);
+    MINE(freed)(it);
+    return status;
+}
+
+static imgref_status MINE(one_bounding_box)(struct sizes is) {
+    struct MINE(image) it = MINE(made_of_few)(is);
+    const struct imgref_window before = {5, 6, 7, 8};
+    struct imgref_window around = before, wanted_around = before;
+    CELL value = (CELL)(any() % 4);
+    imgref_status wanted = is_image(is) ? IMGREF_OK : IMGREF_NOT_AN_IMAGE;
+    if (wanted == IMGREF_OK) {
+        size_t left = SIZE_MAX, top = SIZE_MAX, right = 0, bottom = 0;
+        if (is.width)
+            for (size_t y = 0; y < is.height; y++)
+                for (size_t x = 0; x < is.width; x++)
+                    if (MINE(was)(&it, x, y) == value) {
+                        left = x < left ? x : left;
+                        top = y < top ? y : top;
+                        right = x > right ? x : right;
+                        bottom = y;
+                    }
+        wanted_around = left == SIZE_MAX ? (struct imgref_window){0, 0, 0, 0} : (struct imgref_window){left, top, right - left + 1, bottom - top + 1};
+    }
+    imgref_status status = OF(bounding_box)(it.cells, is.len, is.width, is.height, is.stride, value, &around);
+    tell(MINE(left)(&it, MINE(copy)(&it), status, wanted) && !memcmp(&around, &wanted_around, sizeof around));
+    MINE(freed)(it);
+    return status;
+}
+
 static void MINE(all_calls)(void) {
     series(TEXT "get", MINE(one_get), 1u << IMGREF_OK | 1u << IMGREF_NOT_AN_IMAGE | 1u << IMGREF_PLACE_OUTSIDE);
     series(TEXT "put", MINE(one_put), 1u << IMGREF_OK | 1u << IMGREF_NOT_AN_IMAGE | 1u << IMGREF_PLACE_OUTSIDE);
@@ -426,6 +548,9 @@ static void MINE(all_calls)(void) {
 #endif
     series(TEXT "pack", MINE(one_pack), 1u << IMGREF_OK | 1u << IMGREF_NOT_AN_IMAGE);
     series(TEXT "equal", MINE(one_equal), 1u << IMGREF_OK | 1u << IMGREF_NOT_AN_IMAGE);
+    series(TEXT "flood_fill", MINE(one_flood_fill), 1u << IMGREF_OK | 1u << IMGREF_NOT_AN_IMAGE | 1u << IMGREF_PLACE_OUTSIDE | 1u << IMGREF_NO_ROOM);
+    series(TEXT "components", MINE(one_components), 1u << IMGREF_OK | 1u << IMGREF_NOT_AN_IMAGE | 1u << IMGREF_NO_ROOM);
+    series(TEXT "bounding_box", MINE(one_bounding_box), 1u << IMGREF_OK | 1u << IMGREF_NOT_AN_IMAGE);
 }
 
 #undef MEANS

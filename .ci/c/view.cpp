@@ -215,6 +215,43 @@ static void turns() {
                          is_refused(IMGREF_PLACE_OUTSIDE, [&] { image.swap_rows(0, 2); }));
 }
 
+// Values and sums of 3 by 2 bytes at stride 4.
+static void values_and_sums() {
+    using namespace imgref;
+    std::array<std::uint8_t, 7> pixels{10, 10, 20, 99, 30, 20, 20};
+    view image(pixels, 3, 2, 4);
+    const auto counts = image.histogram();
+    check("histogram", counts.size() == 256 && counts[10] == 2 && counts[20] == 3 && counts[30] == 1 && counts[99] == 0);
+    std::array<std::uint16_t, 3> words{7, 65535, 7};
+    const auto of_words = view(words, 3, 1).histogram();
+    check("histogram of words", of_words.size() == 65536 && of_words[7] == 2 && of_words[65535] == 1);
+    std::array<std::uint64_t, 9> areas{};
+    image.integral_into(view(areas, 3, 2, 5));
+    check("integral_into", areas == std::array<std::uint64_t, 9>{10, 20, 40, 0, 0, 40, 70, 110, 0});
+    check("no integral", is_refused(IMGREF_SIZES_DIFFER, [&] { image.integral_into(view(areas, 2, 2)); }) && is_invalid([&] {
+                             view bytes(reinterpret_cast<std::uint8_t *>(areas.data()), 8, 2, 2, 2);
+                             bytes.integral_into(view(areas, 2, 2));
+                         }));
+    image.equalize();
+    check("equalize", pixels == std::array<std::uint8_t, 7>{85, 85, 212, 99, 255, 212, 212});
+}
+
+// Regions: a ring of ones around a hole, 5 by 4 at stride 6.
+static void regions() {
+    using namespace imgref;
+    std::array<std::int16_t, 23> pixels{1, 1, 1, 0, 1, 1, 1, 0, 1, 0, 0, 1, 1, 1, 1, 1, 0, 1, 0, 0, 1, 0, 0};
+    std::array<std::uint64_t, 20> labels{};
+    view image(pixels, 5, 4, 6);
+    view found(labels, 5, 4);
+    check("components_into", image.components_into(found) == 5 && labels == std::array<std::uint64_t, 20>{1, 1, 1, 2, 3, 1, 4, 1, 2, 2, 1, 1, 1, 1, 2, 5, 5, 1, 2, 2});
+    const rect around = found.bounding_box({2});
+    check("bounding_box", around.left == 3 && around.top == 0 && around.width == 2 && around.height == 4 && !found.bounding_box({6}).width && found.count({2}) == 6);
+    image.flood_fill(2, 2, {-7});
+    check("flood_fill", pixels == std::array<std::int16_t, 23>{-7, -7, -7, 0, 1, 1, -7, 0, -7, 0, 0, 1, -7, -7, -7, -7, 0, 1, 0, 0, -7, 0, 0});
+    check("no regions", is_refused(IMGREF_PLACE_OUTSIDE, [&] { image.flood_fill(5, 0, {1}); }) && is_refused(IMGREF_SIZES_DIFFER, [&] { image.components_into(view(labels, 4, 4)); }) &&
+                            is_invalid([&] { found.components_into(found); }));
+}
+
 // A window's rows are joined over the pixels beside it.
 static void packed_windows() {
     using namespace imgref;
@@ -265,6 +302,8 @@ int main() {
     widths_of_no_colours();
     values();
     turns();
+    values_and_sums();
+    regions();
     packed_windows();
     tiles();
 #ifdef IMGREF_HAS_MDSPAN

@@ -49,9 +49,9 @@ RUNS = [
     ("frame_formats", "plans", "for_video", PLANNED, VIDEO, FILL),
     ("frame_formats", "plans", "for_picture", PLANNED, PICTURE, FILL),
     ("frame_formats", "plans", "scratch", NO_ROOM, VIDEO, ("blur", "0,0,2,2", "1")),
-    ("frame_formats", "lists", "take", READ, VIDEO, FILL),
-    ("frame_formats", "lists", "take_all", READ, VIDEO, FILL),
-    ("frame_formats", "lists", "take_lines", READ, VIDEO, ("--edits", EDITS)),
+    ("frame_edits", "lists", "take", READ, VIDEO, FILL),
+    ("frame_edits", "lists", "take_all", READ, VIDEO, FILL),
+    ("frame_edits", "lists", "take_lines", READ, VIDEO, ("--edits", EDITS)),
     ("imgref_frames", "program", "run", "if true { return Err(RunFault::Memory(0)); }", VIDEO, FILL),
 ]
 # The files that are kept of a crate with many tests.

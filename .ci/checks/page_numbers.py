@@ -77,7 +77,7 @@ NUMBERS = [
     (("docs/WEB.md",), "{N} pixels on a side", lambda: constant("web/open.js", "MOST_SIDE")),
     (("docs/WEB.md",), "{N} million in all", lambda: constant("web/open.js", "MOST_PIXELS") / 1e6),
     (("docs/FRAMES.md",), "at most {N} bytes, including its line feed", lambda: constant(f"{FRAMES}/program.rt", "LONGEST")),
-    (("docs/FRAMES.md",), "{N} (1 GiB)", lambda: constant(f"{FRAMES}/options.rt", "LIMIT")),
+    (("docs/FRAMES.md",), "{N} (1 GiB)", lambda: constant("crates/frame_requests/src/options.rt", "LIMIT")),
     (("docs/GLOSSARY.md",), "{N} steps of a plane", lambda: constant(SPANS, "BLOCK")),
     (("docs/DECISIONS.md",), "block of {N} steps", lambda: constant(SPANS, "BLOCK")),
     (("docs/PROMISES.md",), "{N} random scripts", lambda: constant(".ci/checks/built/scripts.py", "COUNT")),

@@ -7,7 +7,7 @@ long is shown with its number of words.
 
 A paragraph, a list item and a cell have at most 60 words and five sentences: a longer one is a wall, and a list reads better. A row
 of a table is about one thing: no cell has a semicolon, and the first cell names at most four pieces of code, of which all else is true.
-Each page has its words: LIMITS has the most that it may have, counted as by `wc -w`.
+Each page has its words: LIMITS has the most that it may have, counted as by `wc -w`. A page of LINES is short in lines too.
 
     sentences.py             everything
     sentences.py PAGE ..     only these pages, by all rules (a path from the top, such as docs/WEB.md)
@@ -60,6 +60,8 @@ LIMITS = {
     "docs/WEB.md": 1500,
 }
 OTHER_PAGE = 600
+# The most lines of the pages that are mostly one table.
+LINES = {"docs/CPP.md": 90, "docs/RUST.md": 90}
 # A page with two walls and two rows of more than one thing.
 TRIED = f"""{"It is one word more. " * 6}
 
@@ -249,6 +251,9 @@ def sized(cases, path):
     text = path.read_text()
     count, found = len(text.split()), [*walls(text), *crowded(text)]
     cases.count(f"{named(path)}: {count} words of at most {limit(path)}", count <= limit(path))
+    if most := LINES.get(named(path)):
+        lines = len(text.splitlines())
+        cases.count(f"{named(path)}: {lines} lines of at most {most}", lines <= most)
     label = f"{named(path)}: no paragraph or cell of more than {MOST_IN_PARAGRAPH} words or {MOST_SENTENCES} sentences, no row of two things"
     cases.count(label, not found, "\n".join(found))
 

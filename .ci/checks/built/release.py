@@ -22,6 +22,7 @@ sys.path.insert(0, str(pathlib.Path(__file__).resolve().parents[2]))
 from checking import ROOT, Cases, crates
 from library import counted, run, skipped
 
+import web
 import wheels
 from c_library import Failure
 from version import VERSION
@@ -181,6 +182,7 @@ def planted(cases, release, room):
     cases.count("nothing is found in the release itself", status == 0, said)
     tried("a changed byte", "has another sum", changed_byte, with_sums=False)
     tried("a file that has no sum", "isn't there", lambda it: (it / "more.txt").write_text("more"), with_sums=False)
+    tried("a page that leads to another file", "leads to layout.html", lambda it: next(it.glob("*.html")).write_text((web.OUT / "index.html").read_text()))
     tried("a path", "names /tmp/", archive_with(lambda it: (it / "INSTALL").write_text("/tmp/here\n")))
     tried("a missing symbol", "imgref_u8_get", archive_with(lambda it: run(["objcopy", "--localize-symbol=imgref_u8_get", it / "lib/libimgref.a"])))
     shared = lambda it: run(["cc", "-shared", "-o", it / "lib/libimgref.so.1", "-Wl,--whole-archive", it / "lib/libimgref.a", "-Wl,--no-whole-archive", "-Wl,--undefined=getentropy"])
@@ -291,6 +293,7 @@ def tried_inside(cases, release, room):
         "the packages install": ("dpkg -i /given/*.deb >said 2>&1 || cat said", ""),
         "the first program of C.md": ("cc /given/first.c $(pkg-config --cflags --libs imgref) -o first && ./first && pkg-config --modversion imgref", f"status 0, last pixel 7\n{VERSION}\n"),
         "the first program of CPP.md": ("c++ -std=c++17 /given/first.cpp $(pkg-config --cflags --libs imgref) -o first && ./first", f"{64 * 64}\n"),
+        "the program in C++ of README.md": ("c++ -std=c++17 /given/readme.cpp $(pkg-config --cflags --libs imgref) -o first && ./first", "0 200\n"),
         "the Python package of Debian's": ("python3 -c 'import imgref; print(imgref.__version__)'", f"{VERSION}\n"),
         "the programs": ("imgref_frames --version; printf 'image 2 1 2 1 2\\nput 0 - 1 0 9\\n' | imgref_run", f"imgref_frames {VERSION}\ndone\nimage 2 1 2 1 9\n"),
         "the man pages": ("for it in '1 imgref_run' '1 imgref_frames' '3 imgref'; do man $it | head -1 | grep -o -i -m1 '^imgref[_a-z]*([13])'; done", "IMGREF_RUN(1)\nIMGREF_FRAMES(1)\nIMGREF(3)\n"),
@@ -307,6 +310,7 @@ def given(folder, release):
     for it in release.iterdir():
         shutil.copy2(it, folder / it.name)
     (folder / "first.c").write_text(snippet("docs/C.md", "#include <imgref.h>"))
+    (folder / "readme.cpp").write_text(snippet("README.md", "#include <cstdint>"))
     example = snippet("docs/CPP.md", "std::vector<unsigned char> cells(640 * 480);")
     (folder / "first.cpp").write_text(f'#include <imgref.hpp>\n#include <cstdio>\n#include <vector>\nint main() {{\n{example}\nstd::printf("%zu\\n", image.count({{255}}));\n}}\n')
     shutil.copytree(ROOT / "bindings/python/tests", folder / "tests", ignore=shutil.ignore_patterns("__pycache__"))

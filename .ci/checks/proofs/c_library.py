@@ -14,6 +14,8 @@ import tempfile
 sys.path.insert(0, str(pathlib.Path(__file__).resolve().parents[2]))
 from checking import ROOT, Cases
 from library import WARNINGS, counted, installed, run, say_skipped, skipped
+
+from inspection import NEEDED, symbols
 from version import MAJOR, MINOR, PATCH, VERSION
 
 # A picture of 2 by 3 in a frame of 4 by 2: its columns come into the middle, and its last row is cut off.
@@ -42,11 +44,13 @@ def check_names(cases, compiler, prefix):
     """Both libraries show the header's functions, and no other name."""
     _, wrote, said = run([*compiler, "-E", prefix / "include/imgref.h"])
     declared = set(re.findall(r"\b(imgref_\w+)\s*\(", wrote.decode()))
-    cases.count("the header declares the calls", len(declared) == 5 + 4 * 18 + 2, said)
+    cases.count("the header declares the calls", len(declared) == 5 + 4 * 21 + 2 + 4, said)
     shared = names(["-D", prefix / "lib/libimgref.so"])
     cases.count("the shared object shows the header's names alone", shared == declared, str(shared ^ declared))
     static = names(["-g", prefix / "lib/libimgref.a"])
     cases.count("the archive shows the header's names alone", static == declared, str(static ^ declared))
+    _, needed = symbols((prefix / "lib/libimgref.a").read_bytes(), "--syms")
+    cases.count("the archive needs these functions of the C library, and no other", needed == NEEDED, str(needed ^ NEEDED))
     for file in (prefix / "include/imgref.h", ROOT / "docs/C.md"):
         said = re.sub(r"[\s*`]+", " ", file.read_text())
         cases.count(f"{file.name} says how long a row of colours may be", "width channels is below 2^32" in said, said)
@@ -205,9 +209,9 @@ def check_man(cases, prefix):
     else:
         skipped("the form of the man pages (groff)")
     header = (prefix / "include/imgref.h").read_text()
-    calls = set(re.findall(r"\b(imgref_\w+)\(size_t", header)) | {f"imgref_u8_{it}" for it in re.findall(r"imgref_##NAME##_(\w+)\(", header)}
+    calls = set(re.findall(r"\b(imgref_\w+)\((?:size_t|(?:const )?uint\d+_t \*)", header)) | {f"imgref_u8_{it}" for it in re.findall(r"imgref_##NAME##_(\w+)\(", header)}
     lacking = [it for it in [*calls, *re.findall(r"#define (IMGREF_[A-Z_]+) \(", header)] if it not in pages.get("imgref.3", "")]
-    cases.count("imgref.3 names each call and status", len(calls) == 5 + 19 and not lacking, str(lacking))
+    cases.count("imgref.3 names each call and status", len(calls) == 5 + 22 + 4 and not lacking, str(lacking))
     words = set(re.findall(r"(?m)^\| `(\w+) I PATH", (ROOT / "docs/SCRIPT.md").read_text())) | {"image", "compact"}
     lacking = [it for it in words if f'.BI "{it} "' not in pages.get("imgref_run.1", "")]
     cases.count("imgref_run.1 names each command", len(words) > 7 and not lacking, str(lacking))

@@ -7,10 +7,10 @@ indented. A script in docs/SCRIPT.md gives what the page says, as the model tell
 its folders is there, and each definition that docs/GLOSSARY.md names is in its file. docs/CALLERS_REFERENCE.md lists the calls of an
 image that don't require a fit, and docs/DIFFERENCES.md names those that only the port has.
 docs/DECISIONS.md lists each function that is proved by hand. Each name in docs/PROMISES.md and docs/ARCHITECTURE.md is in a
-source.
+source. The pages of the other languages name each public call of their sources.
 
 What the pages show runs (.ci/shown.py): Python, C, C++, Rust, commands of a shell, and the filter of README.md. With the word
---static nothing of this runs.
+--static nothing of this runs, and each block is only looked for among those that run or are known not to.
 """
 import pathlib
 import re
@@ -123,6 +123,28 @@ def exceptions(cases):
     cases.count(f"{REFERENCE}: the calls that don't require a fit", named == found, f"not listed: {sorted(found - named)}, not such: {sorted(named - found)}")
 
 
+def public_names():
+    """Each page for another language, its sources, and the names of their public calls."""
+    texts = {it: (ROOT / it).read_text() for it in ("include/imgref.h", "include/imgref.hpp", "bindings/python/imgref/__init__.py")}
+    view = texts["include/imgref.hpp"].split("template <class T> class view {")[1].split("\npublic:\n")[1].split("\nprivate:\n")[0]
+    python = "".join((ROOT / f"bindings/python/imgref/{it}.py").read_text() for it in ("_image", "_layout"))
+    rust = "".join((ROOT / f"bindings/rust/src/{it}.rs").read_text() for it in ("images", "regions"))
+    of_python = re.findall(r"(?m)^    def ([a-z]\w+)\(", python) + re.findall(r'"([a-z]\w+)"', re.search(r"__all__ = (\[.*\])", texts["bindings/python/imgref/__init__.py"])[1])
+    yield "docs/C.md", "include/imgref.h", re.findall(r"\bimgref_(?:##NAME##_|u\d+_)?(\w+)\(", texts["include/imgref.h"])
+    yield "docs/CPP.md", "include/imgref.hpp", re.findall(r"(?m)^    .*?\b(\w*[a-z])\([^()]*(?:\([^()]*\)[^()]*)*\) (?:const )?(?:noexcept )?\{", view)
+    yield "docs/RUST.md", "bindings/rust", re.findall(r"(?m)^    pub (?:const )?fn (\w+)", rust)
+    yield "docs/PYTHON.md", "bindings/python", of_python
+    yield "bindings/python/README.md", "bindings/python", of_python
+
+
+def members(cases):
+    """The pages for other languages name each public call."""
+    for page, source, names in public_names():
+        said = {word for it in SPAN.findall((ROOT / page).read_text()) for word in re.findall(r"\w+", it.replace("imgref_", ""))}
+        missing = sorted({*names} - said)
+        cases.count(f"{page}: {len({*names})} calls of {source} are named", len({*names}) >= 30 and not missing, f"not named: {missing}")
+
+
 def by_hand(cases):
     """docs/DECISIONS.md lists the functions with a whole proof by hand. (TheLaw is a part of one.)"""
     section = (ROOT / "docs/DECISIONS.md").read_text().split("\n## Proved by hand\n")[-1].split("\n## ")[0]
@@ -142,6 +164,7 @@ def main(words):
     exceptions(cases)
     all_named(cases)
     by_hand(cases)
+    members(cases)
     paths = [it for pattern in SOURCES for it in ROOT.glob(pattern)]
     known = {word for it in paths for word in re.findall(r"\w+", f"{it.relative_to(ROOT)} {it.read_text()}")}
     for name in ("docs/PROMISES.md", "docs/ARCHITECTURE.md"):
@@ -157,8 +180,10 @@ def main(words):
     for name in ("README.md", "docs/CALLERS.md", REFERENCE):
         quoted(cases, name, texts)
     tried(cases, "docs/SCRIPT.md")
+    pages = [*sentences.documents(), *sorted((ROOT / "man").glob("*"))]
+    shown.each_is_tried(cases, pages)
     if "--static" not in words:
-        shown.run_all(cases, sentences.documents())
+        shown.run_all(cases, pages)
     return cases.end()
 
 
