@@ -21,9 +21,7 @@ use frame_messages::{
     say_other_count, say_reason, write_report,
 };
 pub use frame_messages::{RunFault, is_wanted};
-use frame_requests::{
-    Options, Refusal, edits_asked, has_blur, read_options, words_of,
-};
+use frame_requests::{Options, Refusal, edits_asked, has_blur, read_options, words_of};
 pub use frame_requests::{Seen, Shape, Stretch};
 pub use image_planes::{Axes, Change, Scratch, Window};
 pub use program::run;
@@ -445,7 +443,14 @@ fn edit(rt: &HostRuntime, options: Options, words: &[String], bytes: &[&[u8]]) -
     let first = options.first.min(bytes.len());
     let words_left = &bytes[first..];
     let (boxes, file) = (texts.boxes, texts.edits);
-    match edits_asked(rt.alloc(), style_of(options), boxes, texts.hold, file, words_left) {
+    match edits_asked(
+        rt.alloc(),
+        style_of(options),
+        boxes,
+        texts.hold,
+        file,
+        words_left,
+    ) {
         Ok(edits) => carry(rt, options, words, &edits, texts),
         Err(refusal) => refuse(rt, refusal, words_left, texts),
     }
