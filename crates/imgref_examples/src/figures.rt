@@ -3,9 +3,11 @@
 ghost use Rattle.imgref.specs.Words.{Fits, vec_layout};
 
 use crate::{
-    blend, bounding_box, count_above, exchange_and_mirror, fill_disc, gaussian_3x3, halve,
-    histogram, ramp, turn_into_window, turn_lent, turn_right, window_sum,
+    are_connected, blend, bounding_box, count_above, equalize, exchange_and_mirror, fill_disc,
+    gaussian_3x3, halve, histogram, integral, ramp, sum_up_to, thin, turn_into_window, turn_lent,
+    turn_right, window_sum,
 };
+use image_regions::sums_fit;
 use imgref::{Img, ImgRef, ImgVec, Window};
 use std::alloc::{AllocError, Global};
 use std::test::Fail;
@@ -76,5 +78,42 @@ fn images_are_changed_by_places(rt: HostRuntime) -> Result<(), Fail> {
     assert!(rt; drawn.into_buf().as_slice() == [9u8, 2, 3, 100, 9, 9, 6].as_slice());
     exchange_and_mirror(&mut crossed, 0, 1);
     assert!(rt; crossed.into_buf().as_slice() == [3u8, 1, 2, 100, 6, 4, 5].as_slice());
+    Ok(())
+}
+
+#[test]
+fn values_are_spread_and_summed(rt: HostRuntime) -> Result<(), Fail> {
+    let mut image = low(rt.alloc())?;
+    assert!(rt; image.is_valid() && sums_fit(image.as_ref()));
+    assert!(rt; image.width() == 3 && image.height() == 2);
+    let areas = integral(rt.alloc(), image.as_ref())?;
+    assert!(rt; areas.into_buf().as_slice() == [1u64, 3, 6, 5, 12, 21].as_slice());
+    assert!(rt; sum_up_to(rt.alloc(), image.as_ref(), 1, 1)? == 12);
+    equalize(&mut image);
+    assert!(rt; image.into_buf().as_slice() == [42u8, 85, 127, 100, 170, 212, 255].as_slice());
+    Ok(())
+}
+
+#[test]
+fn places_are_connected_over_sides(rt: HostRuntime) -> Result<(), Fail> {
+    let image = Img::new_stride(CELLS.as_slice(), 4, 3, 5);
+    assert!(rt; image.is_valid() && image.width() == 4 && image.height() == 3);
+    assert!(rt; are_connected(rt.alloc(), image, (1, 1), (0, 2))?);
+    assert!(rt; are_connected(rt.alloc(), image, (2, 0), (2, 0))?);
+    assert!(rt; !are_connected(rt.alloc(), image, (0, 0), (1, 1))?);
+    assert!(rt; !are_connected(rt.alloc(), image, (1, 0), (0, 1))?);
+    Ok(())
+}
+
+#[test]
+fn a_square_is_thinned_to_its_middle(rt: HostRuntime) -> Result<(), Fail> {
+    let square = Img::new([7u8; 9].as_slice(), 3, 3);
+    assert!(rt; square.is_valid());
+    let middle = thin(rt.alloc(), square)?;
+    assert!(rt; middle.into_buf().as_slice() == [0u8, 0, 0, 0, 7, 0, 0, 0, 0].as_slice());
+    let line = Img::new([7u8, 7, 7, 7].as_slice(), 4, 1);
+    assert!(rt; line.is_valid());
+    let same = thin(rt.alloc(), line)?;
+    assert!(rt; same.into_buf().as_slice() == [7u8, 7, 7, 7].as_slice());
     Ok(())
 }
