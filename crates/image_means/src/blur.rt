@@ -20,7 +20,8 @@ use image_shape::{Shape, Window};
 use std::ops::Range;
 
 // Each sum of a column gets the sample of this row.
-pub(crate) fn add_row(bytes: SampleBytes, row: &[u8], sums: &mut [u32])
+#[inline(always)]
+fn add_samples(bytes: SampleBytes, row: &[u8], sums: &mut [u32])
     requires row { length row.now ≡ length sums.old * sample_cells bytes }
     requires room { length row.now < 2 ^ 32 }
     requires bounds { (k : ℕ) → k < length sums.old → sum_at sums.old k
@@ -44,7 +45,8 @@ fn cells_of(bytes: SampleBytes) -> usize
 }
 
 // Each sum of a column loses the sample of this row, which is one of its parts.
-pub(crate) fn take_row(bytes: SampleBytes, row: &[u8], sums: &mut [u32])
+#[inline(always)]
+fn take_samples(bytes: SampleBytes, row: &[u8], sums: &mut [u32])
     requires row { length row.now ≡ length sums.old * sample_cells bytes }
     requires room { length row.now < 2 ^ 32 }
     requires parts { (k : ℕ) → k < length sums.old
@@ -54,6 +56,36 @@ pub(crate) fn take_row(bytes: SampleBytes, row: &[u8], sums: &mut [u32])
     let cells = cells_of(bytes);
     for k in 0..sums.len() {
         sums[k] -= u32::from(sample_from(bytes, row, k * cells));
+    }
+}
+
+// Adds a row, with a loop of its own for each kind of sample: it goes by vectors.
+fn add_row(bytes: SampleBytes, row: &[u8], sums: &mut [u32])
+    requires row { length row.now ≡ length sums.old * sample_cells bytes }
+    requires room { length row.now < 2 ^ 32 }
+    requires bounds { (k : ℕ) → k < length sums.old → sum_at sums.old k
+        + sample_in bytes (λ n. n) row.now (k * sample_cells bytes) < 2 ^ 32 }
+    ensures { AddsSamples bytes row.now sums.old sums.new }
+{
+    match bytes {
+        SampleBytes::One => add_samples(SampleBytes::One, row, sums),
+        SampleBytes::LowFirst => add_samples(SampleBytes::LowFirst, row, sums),
+        SampleBytes::HighFirst => add_samples(SampleBytes::HighFirst, row, sums),
+    }
+}
+
+// Takes a row away in the same way.
+fn take_row(bytes: SampleBytes, row: &[u8], sums: &mut [u32])
+    requires row { length row.now ≡ length sums.old * sample_cells bytes }
+    requires room { length row.now < 2 ^ 32 }
+    requires parts { (k : ℕ) → k < length sums.old
+        → sample_in bytes (λ n. n) row.now (k * sample_cells bytes) ≤ sum_at sums.old k }
+    ensures { AddsSamples bytes row.now sums.new sums.old }
+{
+    match bytes {
+        SampleBytes::One => take_samples(SampleBytes::One, row, sums),
+        SampleBytes::LowFirst => take_samples(SampleBytes::LowFirst, row, sums),
+        SampleBytes::HighFirst => take_samples(SampleBytes::HighFirst, row, sums),
     }
 }
 

@@ -1,3 +1,4 @@
+mod Entries
 mod LevelTables
 mod LookedAt
 mod Pending

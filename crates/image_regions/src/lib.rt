@@ -10,6 +10,7 @@
 mod areas;
 mod boxes;
 mod counting;
+mod entries;
 mod equalizing;
 mod floods;
 mod labels;
@@ -20,6 +21,7 @@ mod tests;
 pub use areas::{integral, integral_into, sums_fit};
 pub use boxes::{area, bounding_box};
 pub use counting::{cumulative, histogram, histogram_u16, histogram_u16_into};
+pub use entries::map_by;
 pub use equalizing::equalize;
 pub use floods::{flood_fill, flood_fill_in};
 pub use labels::{Regions, components, components_into};

@@ -2,7 +2,7 @@
 
 use crate::{
     area, bounding_box, components, equalize, flood_fill, histogram, histogram_u16, integral,
-    sums_fit,
+    map_by, sums_fit,
 };
 use imgref::{Img, ImgRef, ImgVec, Window};
 use std::test::Fail;
@@ -23,6 +23,19 @@ fn values_are_counted_and_spread(rt: HostRuntime) -> Result<(), Fail> {
     assert!(rt; words.is_valid());
     let counts = histogram_u16(rt.alloc(), words)?;
     assert!(rt; counts.len() == 65536 && counts[7] == 2 && counts[65535] == 1 && counts[0] == 0);
+    Ok(())
+}
+
+#[test]
+fn values_are_looked_up(rt: HostRuntime) -> Result<(), Fail> {
+    let image = Img::new_stride(LOW.as_slice(), 3, 2, 4);
+    assert!(rt; image.is_valid());
+    let mut table = [0u32; 256];
+    table[10] = 7;
+    table[30] = 70000;
+    let made = map_by(rt.alloc(), image, &table)?;
+    assert!(rt; made.width() == 3 && made.height() == 2);
+    assert!(rt; made.into_buf().as_slice() == [7u32, 7, 0, 70000, 0, 0].as_slice());
     Ok(())
 }
 

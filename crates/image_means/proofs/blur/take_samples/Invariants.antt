@@ -3,7 +3,7 @@ use Rattle.std.proofs.Common.{◌≡◌, ◌<◌, ◌≤◌, ◌+◌, ◌*◌, �
 use Rattle.std.specs.List.{slice_get}
 use Rattle.image_means.specs.Blur.{sum_at}
 use Rattle.image_means.specs.Means.{sample_cells, sample_in}
-use Rattle.image_means.proofs.blur.take_row.Given as goal
+use Rattle.image_means.proofs.blur.take_samples.Given as goal
 
 abbrev pub invariant-loop-k : goal.invariant-loop-k
 invariant-loop-k l = record {
