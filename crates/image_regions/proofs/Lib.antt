@@ -1,4 +1,4 @@
-mod Entries
+pub mod ByTable
 mod LevelTables
 mod LookedAt
 mod Pending

@@ -23,7 +23,6 @@ fn entry<U: Copy>(table: &[U; 256], value: u8) -> U
 /// # Errors
 ///
 /// Out of memory.
-#[tactic(auto, using(crate::proofs::Entries::second_mapped))]
 pub fn map_by<U: Copy>(
     alloc: Global,
     image: ImgRef<'_, u8>,
@@ -35,7 +34,19 @@ pub fn map_by<U: Copy>(
     ensures fits { IfOk result (λ i. Fits (vec_layout i)) }
 {
     let first = table[0];
-    let mut made = ImgVec::from_places(alloc, image.width(), image.height(), |_x, _y| first)?;
-    made.zip_pixels(image, |_old, value| entry(table, value));
+    let mut made = ImgVec::from_places(
+        alloc,
+        image.width(),
+        image.height(),
+        |_x: usize, _y: usize| -> U
+            ensures { result ≡ first }
+        { first },
+    )?;
+    made.zip_pixels(
+        image,
+        |_old: U, value: u8| -> U
+            ensures { (other : U) → result ≡ slice_index_or table.entry.now value other }
+        { entry(table, value) },
+    );
     Ok(made)
 }

@@ -1,10 +1,12 @@
-//! Every pixel brighter: by a closure, by places and row by row.
+//! Every pixel brighter: by a closure, by places, row by row, and in a copy by a table.
 
-ghost use Rattle.std.specs.Prelude.{◌≡◌, ◌<◌, map, length};
-ghost use Rattle.imgref.specs.Words.{Fits, SameOutside, patch, one_row, row, width_of, height_of, vec_grid, vec_layout};
+ghost use Rattle.std.specs.Prelude.{◌≡◌, ◌<◌, ℕ, IfOk, map, length, slice_index};
+ghost use Rattle.imgref.specs.Words.{Fits, SameOutside, patch, one_row, row, width_of, height_of, ref_grid, ref_layout, vec_grid, vec_layout};
 ghost use Rattle.imgref_examples.specs.Brightness.{brighter, brightened};
 
-use imgref::ImgVec;
+use image_regions::map_by;
+use imgref::{ImgRef, ImgVec, bound_u8};
+use std::alloc::{AllocError, Global};
 
 /// Adds `by` to every pixel, up to 255; the padding stays.
 pub fn brighten(image: &mut ImgVec<u8>, by: u8)
@@ -62,4 +64,25 @@ pub fn brighten_rows(image: &mut ImgVec<u8>, by: u8)
     for y in 0..image.height() {
         brighten_line(image, y, by);
     }
+}
+
+// What each value becomes.
+fn brighter_values(by: u8) -> [u8; 256]
+    ensures { (v : ℕ) → v < 256 → slice_index result v ≡ brighter by v }
+{
+    let mut table = [0u8; 256];
+    for v in 0..256usize {
+        table[v] = (v as u8).saturating_add(by);
+    }
+    table
+}
+
+/// The same in a copy, by a table of the values.
+pub fn brighten_copy(alloc: Global, image: ImgRef<'_, u8>, by: u8) -> Result<ImgVec<u8>, AllocError>
+    requires { Fits (ref_layout image) }
+    ensures { IfOk result (λ i. vec_grid i ≡ brightened by (ref_grid image.entry)) }
+{
+    bound_u8(image);
+    let made = map_by(alloc, image, &brighter_values(by))?;
+    Ok(made)
 }

@@ -54,7 +54,7 @@ pub use beside::put_above_fill;
 pub use blits::{copy_across, copy_but_one, copy_over_cells, scroll_up};
 pub use blur::box_blur_3x3;
 pub use border::draw_border;
-pub use brightness::{brighten, brighten_places, brighten_rows};
+pub use brightness::{brighten, brighten_copy, brighten_places, brighten_rows};
 pub use conditions::{
     add_same_size, cells_of_last_columns, clear_start_of_last_row, column_bound,
     exchange_last_columns, exchange_last_rows, halve_if_it_fits, highest, last_cell, narrowest,

@@ -4,9 +4,9 @@ ghost use Rattle.std.specs.Prelude.{◌≡◌, IfOk};
 ghost use Rattle.imgref.specs.Image.{width_of, height_of};
 
 use crate::{
-    FrameError, box_blur_3x3, brighten, brighten_places, brighten_rows, crop_copy, dot, draw_any,
-    draw_lent, draw_rect, flip_any, luma_plane, pixel_of_any, pixel_of_ref, pixel_of_vec,
-    put_and_read, put_then_get, stripes, three_by_index, three_places,
+    FrameError, box_blur_3x3, brighten, brighten_copy, brighten_places, brighten_rows, crop_copy,
+    dot, draw_any, draw_lent, draw_rect, flip_any, luma_plane, pixel_of_any, pixel_of_ref,
+    pixel_of_vec, put_and_read, put_then_get, stripes, three_by_index, three_places,
 };
 use imgref::{Img, ImgVec, Window};
 use std::alloc::{AllocError, Global};
@@ -37,6 +37,8 @@ fn brighter_pixels_stop_at_255(rt: HostRuntime) -> Result<(), Fail> {
     assert!(rt; by_pixels.buf().as_slice() == BRIGHT.as_slice());
     assert!(rt; by_places.buf().as_slice() == BRIGHT.as_slice());
     assert!(rt; by_rows.buf().as_slice() == BRIGHT.as_slice());
+    let copy = brighten_copy(rt.alloc(), Img::new_stride(CELLS.as_slice(), 3, 2, 4), 10)?;
+    assert!(rt; copy.into_buf().as_slice() == [11u8, 12, 13, 14, 15, 255].as_slice());
     Ok(())
 }
 
