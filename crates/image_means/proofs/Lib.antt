@@ -6,3 +6,4 @@ pub mod MeanTiles
 pub mod Rounding
 pub mod SumsOfTiles
 pub mod Samples
+pub mod Spans

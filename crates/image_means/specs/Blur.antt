@@ -1,5 +1,5 @@
 -- A grid of which each pixel is the mean of the box around it, cut at the grid's edges.
-use Rattle.std.specs.Prelude.{◌≡◌, ℕ, true, ◌+◌, ◌-◌, ◌*◌, ◌/◌, ◌%◌, ◌^◌, ◌<◌, ◌≤◌, ◌⊎◌, min, Some, List, length, slice_get, slice_index_or}
+use Rattle.std.specs.Prelude.{◌≡◌, ℕ, ◌+◌, ◌-◌, ◌*◌, ◌/◌, ◌%◌, ◌^◌, ◌<◌, ◌≤◌, ◌⊎◌, min, Some, List, length, slice_get, slice_index_or}
 use Rattle.image_model.specs.Grid.{Grid, grid}
 use Rattle.image_model.specs.Layout.{Fits}
 use Rattle.image_model.specs.Rows.{row_count}
@@ -8,7 +8,6 @@ use Rattle.image_shape.specs.declared.shape.Shape.{Shape}
 use Rattle.image_means.specs.Division.{factor_of}
 use Rattle.image_means.specs.Means.{mean_of, rounded_mean, sample_at, sample_cells, sample_in, sample_number, sample_start, cell_number, sum_upto}
 use Rattle.image_means.specs.declared.blur.Blur.{Blur}
-use Rattle.image_means.specs.declared.blur.Span.{Span}
 use Rattle.image_means.specs.declared.means.SampleBytes.{SampleBytes}
 
 -- where the box around a place begins
@@ -65,12 +64,6 @@ IsSumBefore sums per at across p sum = sum + pixels_upto sums per at (p - (acros
 -- the factors of boxes of so many lines, by their columns
 pub record AreFactors (factors : List ℕ) (lines : ℕ) : Type 0 where
   pub each : (c : ℕ) → 0 < c → c < length factors → slice_index_or factors c 0 ≡ factor_of (c * lines)
-
--- some of so many pixels: where it says so, the row's ends cut no box around them
-pub record IsSpan (span : Span) (across pixels : ℕ) : Type 0 where
-  pub order : span.from ≤ span.end
-  pub inside : span.end ≤ pixels
-  pub whole : span.whole ≡ true → span.from < span.end → (across < span.from) × (span.end + across ≤ pixels)
 
 -- the samples at one place of these pixels are means of boxes, and all others are as they were
 pub record BlursSpan (bytes : SampleBytes) (sums : List ℕ) (per at across lines from end : ℕ) (old new : List ℕ) : Type 0 where

@@ -8,7 +8,7 @@ ghost use Rattle.image_model.specs.Windows.{window_view, IsInside};
 ghost use Rattle.image_shape.specs.Window.{as_window};
 ghost use Rattle.image_shape.specs.Shape.{shape_height, shape_stride, shape_width, shaped, shaped_grid};
 ghost use Rattle.image_writes.specs.Written.{Becomes};
-ghost use Rattle.image_means.specs.Blur.{blurred, column_upto, pixels_upto, sum_at, AddsSamples, AddsRows, AreFactors, AreSumsFor, BlursPlace, BlursRow, BlursSpan, CanBeBlurred, HaveRows, IsSpan, IsSumBefore, PutsSample};
+ghost use Rattle.image_means.specs.Blur.{blurred, column_upto, pixels_upto, sum_at, AddsSamples, AddsRows, AreFactors, AreSumsFor, BlursPlace, BlursRow, BlursSpan, CanBeBlurred, HaveRows, IsSumBefore, PutsSample};
 ghost use Rattle.image_means.specs.Division.{factor_of};
 ghost use Rattle.image_means.specs.Means.{sample_cells, sample_in, sample_number};
 
@@ -127,9 +127,10 @@ fn next_box(sums: &[u32], per: usize, at: usize, across: usize, p: usize, before
     sum
 }
 
-// The same for a box that the row's ends don't cut.
+// The same for a box that the row's ends don't cut, by numbers of 32 bits. The pixel goes out before
+// the other one comes in.
 #[inline(always)]
-fn next_whole_box(sums: &[u32], per: usize, at: usize, across: usize, p: usize, before: u64) -> u64
+fn next_whole_box(sums: &[u32], per: usize, at: usize, across: usize, p: usize, before: u32) -> u32
     requires place { at < per }
     requires whole { length sums.now ≡ length sums.now / per * per }
     requires room { length sums.now < 2 ^ 32 }
@@ -138,12 +139,14 @@ fn next_whole_box(sums: &[u32], per: usize, at: usize, across: usize, p: usize, 
     requires last { p + across < length sums.now / per }
     requires before { before + pixels_upto sums.now per at (p - (across + 1))
         ≡ pixels_upto sums.now per at (min (length sums.now / per) (p + across)) }
+    requires small { pixels_upto sums.now per at (min (length sums.now / per) (p + across + 1))
+        < 2 ^ 32 + pixels_upto sums.now per at (p - across) }
     ensures { result + pixels_upto sums.now per at (p - across)
         ≡ pixels_upto sums.now per at (min (length sums.now / per) (p + across + 1)) }
 {
-    let gained = u64::from(sums[(p + across) * per + at]);
-    let lost = u64::from(sums[(p - across - 1) * per + at]);
-    before + gained - lost
+    let lost = sums[(p - across - 1) * per + at];
+    let gained = sums[(p + across) * per + at];
+    before - lost + gained
 }
 
 // Writes the cells of a sample.
@@ -220,56 +223,79 @@ struct Place {
     lines: usize,
 }
 
-// Some pixels of a row, and whether the row's ends cut no box around them.
-#[derive(Clone, Copy)]
-struct Span {
-    from: usize,
-    end: usize,
-    whole: bool,
-}
-
-// The samples at one place of these pixels get the means of boxes that have these sums of columns. The sum
-// of the box before them becomes that of the last one. Whole boxes have one factor.
+// The samples at one place of some pixels get the means of boxes that have these sums of columns. The sum
+// of the box before them becomes that of the last one.
 #[inline(always)]
 fn blur_span(
     place: Place,
     sums: &[u32],
     row: &mut [u8],
     factors: &[u64],
-    span: Span,
+    pixels: Range<usize>,
     before: u64,
 ) -> u64
     requires place { place.at < place.blur.per }
     requires across { place.blur.across < 2 ^ 15 }
     requires sums { AreSumsFor place.blur.bytes place.blur.per place.lines sums.now (length row.old) }
     requires factors { AreFactors factors.now place.lines }
-    requires span { IsSpan span place.blur.across (length sums.now / place.blur.per) }
-    requires before { IsSumBefore sums.now place.blur.per place.at place.blur.across span.from before }
-    ensures sum { IsSumBefore sums.now place.blur.per place.at place.blur.across span.end result }
+    requires order { pixels.start ≤ pixels.end }
+    requires inside { pixels.end ≤ length sums.now / place.blur.per }
+    requires before { IsSumBefore sums.now place.blur.per place.at place.blur.across pixels.start before }
+    ensures sum { IsSumBefore sums.now place.blur.per place.at place.blur.across pixels.end result }
     ensures means { BlursSpan place.blur.bytes sums.now place.blur.per place.at place.blur.across place.lines
-        span.from span.end row.old row.new }
+        pixels.start pixels.end row.old row.new }
 {
     let Place { blur, at, lines } = place;
     let per = blur.per;
     let across = blur.across;
     let cells = cells_of(blur.bytes);
-    let pixels = sums.len() / per;
+    let all = sums.len() / per;
     let mut sum = before;
-    let mut count = ((2 * across + 1) * lines) as u64;
-    let mut factor = factor_for(factors, 2 * across + 1, lines);
-    for p in span.from..span.end {
-        if span.whole {
-            sum = next_whole_box(sums, per, at, across, p, sum);
-        } else {
-            sum = next_box(sums, per, at, across, p, sum);
-            let columns = pixels.min(p + across + 1) - p.saturating_sub(across);
-            count = (columns * lines) as u64;
-            factor = factor_for(factors, columns, lines);
-        }
-        let mean = mean_by(sum, count, factor);
+    for p in pixels.start..pixels.end {
+        sum = next_box(sums, per, at, across, p, sum);
+        let columns = all.min(p + across + 1) - p.saturating_sub(across);
+        let factor = factor_for(factors, columns, lines);
+        let mean = mean_by(sum, (columns * lines) as u64, factor);
         put_sample(blur.bytes, row, (p * per + at) * cells, mean as u16);
     }
     sum
+}
+
+// The same where the row's ends cut no box: all have one factor, and their sums have 32 bits.
+#[inline(always)]
+fn blur_whole(
+    place: Place,
+    sums: &[u32],
+    row: &mut [u8],
+    factor: u64,
+    pixels: Range<usize>,
+    before: u64,
+) -> u64
+    requires place { place.at < place.blur.per }
+    requires across { place.blur.across < 2 ^ 15 }
+    requires sums { AreSumsFor place.blur.bytes place.blur.per place.lines sums.now (length row.old) }
+    requires factor { factor ≡ factor_of ((2 * place.blur.across + 1) * place.lines) }
+    requires few { 0 < factor }
+    requires order { pixels.start ≤ pixels.end }
+    requires first { place.blur.across < pixels.start }
+    requires last { pixels.end + place.blur.across ≤ length sums.now / place.blur.per }
+    requires before { IsSumBefore sums.now place.blur.per place.at place.blur.across pixels.start before }
+    ensures sum { IsSumBefore sums.now place.blur.per place.at place.blur.across pixels.end result }
+    ensures means { BlursSpan place.blur.bytes sums.now place.blur.per place.at place.blur.across place.lines
+        pixels.start pixels.end row.old row.new }
+{
+    let Place { blur, at, lines } = place;
+    let per = blur.per;
+    let across = blur.across;
+    let cells = cells_of(blur.bytes);
+    let count = ((2 * across + 1) * lines) as u64;
+    let mut sum = before as u32;
+    for p in pixels.start..pixels.end {
+        sum = next_whole_box(sums, per, at, across, p, sum);
+        let mean = mean_by(u64::from(sum), count, factor);
+        put_sample(blur.bytes, row, (p * per + at) * cells, mean as u16);
+    }
+    u64::from(sum)
 }
 
 // The samples at one place of each pixel get the means of boxes that have these sums of columns over
@@ -284,14 +310,18 @@ fn blur_place(place: Place, sums: &[u32], row: &mut [u8], factors: &[u64])
         row.old row.new }
 {
     let Blur { per, across, .. } = place.blur;
-    let pixels = sums.len() / per;
-    let from = pixels.min(across + 1);
-    let end = from.max(pixels.saturating_sub(across));
-    let span = |from, end, whole| Span { from, end, whole };
-    let sum = sum_before(sums, per, place.at, pixels.min(across));
-    let sum = blur_span(place, sums, row, factors, span(0, from, false), sum);
-    let sum = blur_span(place, sums, row, factors, span(from, end, true), sum);
-    blur_span(place, sums, row, factors, span(end, pixels, false), sum);
+    let all = sums.len() / per;
+    let from = all.min(across + 1);
+    let end = from.max(all.saturating_sub(across));
+    let factor = factor_for(factors, 2 * across + 1, place.lines);
+    let sum = sum_before(sums, per, place.at, all.min(across));
+    let sum = blur_span(place, sums, row, factors, 0..from, sum);
+    let sum = if factor > 0 && from < end {
+        blur_whole(place, sums, row, factor, from..end, sum)
+    } else {
+        blur_span(place, sums, row, factors, from..end, sum)
+    };
+    blur_span(place, sums, row, factors, end..all, sum);
 }
 
 // The row gets the means of boxes that have these sums of columns over so many lines.
