@@ -10,33 +10,10 @@ use Rattle.image_model.specs.Grid.{Grid, grid_of, patch, uniform}
 use Rattle.image_model.specs.Connected.{IsConnected, start, next}
 use Rattle.image_model.specs.Counts.{is_value, hits, place_hits, places_with}
 use Rattle.image_model.specs.Regions.{unlabelled, HasRegion}
-use Rattle.image_model.proofs.Patches.{put_pixel}
 use Rattle.image_model.proofs.Puts.{put_cases, one_fewer}
 use Rattle.image_model.proofs.Reading.{is_a_place}
 use Rattle.image_model.proofs.Regions.{open_by, open_is, open_tells, open_at, labelled_place}
 use Rattle.image_regions.specs.Runs.{ShowsAlong, FillsRun, AddsLabel, IsPending, IsLookedAt, Spreading}
-
--- ---- a run that is filled
-
--- no place of it yet
-pub fills_none : (n y from : ℕ) (h : Grid ℕ) → FillsRun n y from from h h
-fills_none n y from h = record { along = λ u p q. absurd (omega (arith, p, q)); each = λ u v. inl refl }
-
--- one place more
-pub fills_more : (n y from to : ℕ) (old : Grid ℕ) (l k : Layout ℕ) → from ≤ to → to < l.width → y < l.height → grid_of k ≡ patch (grid_of l) to y (uniform 1 1 n) → FillsRun n y from to old (grid_of l) → FillsRun n y from (to + 1) old (grid_of k)
-fills_more n y from to old l k order column line put f = record {
-  along = λ u p q. ⊎_elim
-      (λ at. ap (λ z. (grid_of k).pixel z y) at.1 ∙ ap (λ h. h.pixel to y) put ∙ put_pixel l to y n column line)
-      (λ other. ⊎_elim (λ same. same ∙ f.along u p (omega (arith, q, other.1))) (λ at. at.2) (cases u y))
-      (eqb_tells u to);
-  each = λ u v. ⊎_elim
-      (λ same. ⊎_elim (λ s. inl (same ∙ s)) (λ r. inr (r.0, r.1, omega (arith, r), same ∙ r.3)) (f.each u v))
-      (λ at. inr (at.1, omega (arith, at.0, order), omega (arith, at.0), at.2))
-      (cases u v);
-}
-  where
-    cases : (u v : ℕ) → ((grid_of k).pixel u v ≡ (grid_of l).pixel u v) ⊎ ((u ≡ to) × (v ≡ y) × ((grid_of k).pixel u v ≡ Some n))
-    cases u v = subst (λ h. (h.pixel u v ≡ (grid_of l).pixel u v) ⊎ ((u ≡ to) × (v ≡ y) × (h.pixel u v ≡ Some n))) (sym put) (put_cases l to y n column line u v)
 
 -- ---- labels that are added
 
@@ -284,6 +261,3 @@ module _ {T : Type 0} (test : T → Bool) (g : Grid T) where
             (λ p. ⊎_elim (λ q. absurd (omega (arith, none, q.2))) (λ at. absurd (omega (arith, at))) p)
             (f.down i j v (reached i j path) c.1 (subst (λ z. free.pixel z v ≡ Some true) (sym c.0) (same ∙ f.first)))))
             step
-
--- these laws, for `using`
-pub ruleset runs = (fills_none, fills_more, outside_closed, closed_stays)
