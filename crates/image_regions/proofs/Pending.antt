@@ -1,5 +1,5 @@
 -- Places that are pending: one is noted in a room, or taken off.
-use Rattle.std.proofs.Common.{◌≡◌, ℕ, ◌+◌, ◌-◌, ◌*◌, ◌/◌, ◌%◌, ◌^◌, ◌<◌, ◌≤◌, zero, suc, Bool, List, [], ◌∷◌, ◌++◌, length, take, set, get_or, sym, ap, ◌∙◌, subst, arith, ⊎_elim}
+use Rattle.std.proofs.Common.{◌≡◌, ◌≢◌, false, ℕ, ◌+◌, ◌-◌, ◌*◌, ◌/◌, ◌%◌, ◌^◌, ◌<◌, ◌≤◌, zero, suc, Bool, List, [], ◌∷◌, ◌++◌, length, take, set, get_or, sym, ap, ◌∙◌, subst, arith, ⊎_elim}
 use Rattle.std.specs.List.{Contains}
 use Rattle.std.proofs.lemmas.Bool.{cases_Bool}
 use Rattle.std.proofs.lemmas.Bool.Decides.{eqb_tells}
@@ -12,7 +12,9 @@ use Rattle.image_model.specs.Connected.{beside}
 use Rattle.image_model.specs.Counts.{hits, place_hits, places_where, places_with}
 use Rattle.image_model.specs.Grid.{grid_of}
 use Rattle.image_model.specs.Layout.{Layout}
-use Rattle.image_regions.specs.Pending.{around, ArePlaces}
+use Rattle.imgref.specs.Words.{Fits, TellsApart, shape_height, shape_width, shaped}
+use Rattle.image_regions.specs.declared.floods.Fill.{Fill}
+use Rattle.image_regions.specs.Pending.{around, ArePlaces, CanFill, FillsPlaces}
 
 -- ---- in a room
 
@@ -111,3 +113,40 @@ places_where_bound test l = place_hits_bound _ l.width l.height
 pub places_with_bound : (value : ℕ) (l : Layout ℕ) → places_with value (grid_of l) ≤ l.width * l.height
 unfolding grid_of places_with
 places_with_bound value l = place_hits_bound _ l.width l.height
+
+-- ---- a fill
+
+module _ {T : Type 0} (fill : Fill T) (eq : T → T → Bool) where
+  -- the value isn't the seed
+  pub value_fails : TellsApart eq → fill.seed ≢ fill.value → eq fill.value fill.seed ≡ false
+  value_fails tells other = ⊎_elim (λ e. absurd (other (sym ((tells fill.value fill.seed).0 e)))) (λ e. e) (cases_Bool (eq fill.value fill.seed))
+
+  -- no place is pending yet
+  pub can_begin : (cells : List T) (room : List ℕ) → Fits (shaped cells fill.shape) → TellsApart eq → fill.seed ≢ fill.value → shape_width fill.shape * shape_height fill.shape ≤ length room → CanFill fill eq cells 0 room
+  can_begin cells room fits tells other enough = record {
+    fits = fits;
+    tells = tells;
+    other = other;
+    enough = omega (arith, enough, places_where_bound (λ p. eq p fill.seed) (shaped cells fill.shape));
+    places = λ k none. absurd (omega (arith, none));
+  }
+
+  -- one is taken off
+  pub one_taken : (cells : List T) (count : ℕ) (room : List ℕ) → CanFill fill eq cells count room → CanFill fill eq cells (count - 1) room
+  one_taken cells count room can = record {
+    fits = can.fits;
+    tells = can.tells;
+    other = can.other;
+    enough = omega (arith, can.enough);
+    places = λ k below. can.places k (omega (arith, below));
+  }
+
+  -- after a step the next one is possible
+  pub can_go_on : (a : List T) (i : ℕ) (p : List ℕ) (b : List T) (j : ℕ) (q : List ℕ) → CanFill fill eq a i p → FillsPlaces fill eq a i p b j q → CanFill fill eq b j q
+  can_go_on a i p b j q can one = record {
+    fits = one.fits;
+    tells = can.tells;
+    other = can.other;
+    enough = omega (arith, can.enough, one.fewer, one.room);
+    places = one.places;
+  }
