@@ -1,5 +1,5 @@
 -- Places that are pending: one is noted in a room, or taken off.
-use Rattle.std.proofs.Common.{◌≡◌, ◌≢◌, false, ℕ, ◌+◌, ◌-◌, ◌*◌, ◌/◌, ◌%◌, ◌^◌, ◌<◌, ◌≤◌, zero, suc, Bool, List, [], ◌∷◌, ◌++◌, length, take, set, get_or, sym, ap, ◌∙◌, subst, arith, ⊎_elim}
+use Rattle.std.proofs.Common.{◌≡◌, ◌≢◌, false, ℕ, ◌+◌, ◌-◌, ◌*◌, ◌/◌, ◌%◌, ◌<◌, ◌≤◌, zero, suc, Bool, List, [], ◌∷◌, ◌++◌, length, take, set, get_or, sym, ap, ◌∙◌, subst, arith, ⊎_elim}
 use Rattle.std.specs.List.{Contains}
 use Rattle.std.proofs.lemmas.Bool.{cases_Bool}
 use Rattle.std.proofs.lemmas.Bool.Decides.{eqb_tells}
@@ -51,12 +51,6 @@ pub number_within : (width height x y n : ℕ) → x < width → y < height → 
 number_within width height x y n column line is =
     let lines : (y + 1) * width ≤ height * width = mul-le-mul (omega (arith, line)) (omega arith) in
     omega (arith, is, column, lines)
-
-pub number_fits : (width height x y n : ℕ) → width < 2 ^ 32 → height < 2 ^ 32 → x < width → y < height → n ≡ y * width + x → n < 2 ^ 64
-number_fits width height x y n narrow low column line is =
-    let few : width ≤ 4294967295 = omega (arith, narrow) in
-    let short : height ≤ 4294967295 = omega (arith, low) in
-    omega (arith, mul-le-mul few short, number_within width height x y n column line is)
 
 -- ---- lists in another order
 
