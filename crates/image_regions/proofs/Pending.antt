@@ -1,5 +1,5 @@
 -- Places that are pending: one is noted in a room, or taken off.
-use Rattle.std.proofs.Common.{◌≡◌, ◌≢◌, false, ℕ, ◌+◌, ◌-◌, ◌*◌, ◌/◌, ◌%◌, ◌<◌, ◌≤◌, zero, suc, Bool, List, [], ◌∷◌, ◌++◌, length, take, set, get_or, sym, ap, ◌∙◌, subst, arith, ⊎_elim}
+use Rattle.std.proofs.Common.{◌≡◌, ◌≢◌, true, false, Some, ℕ, ◌+◌, ◌-◌, ◌*◌, ◌/◌, ◌%◌, ◌<◌, ◌≤◌, zero, suc, Bool, List, [], ◌∷◌, ◌++◌, length, take, set, get_or, sym, ap, ◌∙◌, subst, arith, ⊎_elim}
 use Rattle.std.specs.List.{Contains}
 use Rattle.std.proofs.lemmas.Bool.{cases_Bool}
 use Rattle.std.proofs.lemmas.Bool.Decides.{eqb_tells}
@@ -10,11 +10,12 @@ use Rattle.std.proofs.Math.Nat.{mul-le-mul}
 use Rattle.std.proofs.lemmas.Nat.{mod-mul-add, div-mul-add}
 use Rattle.image_model.specs.Connected.{beside}
 use Rattle.image_model.specs.Counts.{hits, place_hits, places_where, places_with}
-use Rattle.image_model.specs.Grid.{grid_of}
+use Rattle.image_model.specs.Grid.{grid_of, patch, uniform}
 use Rattle.image_model.specs.Layout.{Layout}
+use Rattle.image_model.proofs.Puts.{one_fewer_where}
 use Rattle.imgref.specs.Words.{Fits, TellsApart, shape_height, shape_width, shaped}
 use Rattle.image_regions.specs.declared.floods.Fill.{Fill}
-use Rattle.image_regions.specs.Pending.{around, ArePlaces, CanFill, FillsPlaces}
+use Rattle.image_regions.specs.Pending.{around, ArePlaces, CanFill, FillsPlaces, cell_grid, places_left}
 
 -- ---- in a room
 
@@ -111,9 +112,12 @@ places_with_bound value l = place_hits_bound _ l.width l.height
 -- ---- a fill
 
 module _ {T : Type 0} (fill : Fill T) (eq : T → T → Bool) where
-  -- the value isn't the seed
-  pub value_fails : TellsApart eq → fill.seed ≢ fill.value → eq fill.value fill.seed ≡ false
-  value_fails tells other = ⊎_elim (λ e. absurd (other (sym ((tells fill.value fill.seed).0 e)))) (λ e. e) (cases_Bool (eq fill.value fill.seed))
+  -- a place that shows the seed gets the value
+  pub one_filled : TellsApart eq → fill.seed ≢ fill.value → (cells : List T) (x y : ℕ) (p : T) → (cell_grid fill cells).pixel x y ≡ Some p → eq p fill.seed ≡ true
+      → places_where (λ q. eq q fill.seed) (patch (cell_grid fill cells) x y (uniform 1 1 fill.value)) + 1 ≡ places_left fill eq cells
+  one_filled tells other cells x y p shown same =
+      let fails : eq fill.value fill.seed ≡ false = ⊎_elim (λ e. absurd (other (sym ((tells fill.value fill.seed).0 e)))) (λ e. e) (cases_Bool (eq fill.value fill.seed)) in
+      one_fewer_where (λ q. eq q fill.seed) (shaped cells fill.shape) x y p fill.value shown same fails
 
   -- no place is pending yet
   pub can_begin : (cells : List T) (room : List ℕ) → Fits (shaped cells fill.shape) → TellsApart eq → fill.seed ≢ fill.value → shape_width fill.shape * shape_height fill.shape ≤ length room → CanFill fill eq cells 0 room

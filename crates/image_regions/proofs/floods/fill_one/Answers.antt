@@ -2,9 +2,8 @@ use Rattle.std.proofs.Common.{◌≡◌, ◌≢◌, ◌+◌, ◌*◌, ◌++◌, 
 use Rattle.std.proofs.lemmas.Bool.{true≢false}
 use Rattle.imgref.specs.Words.{places_where, shape_height, shape_width, shaped}
 use Rattle.image_model.proofs.Connected.{flood_skips}
-use Rattle.image_model.proofs.Puts.{one_fewer_where}
 use Rattle.image_regions.specs.Pending.{cell_grid, to_look_at}
-use Rattle.image_regions.proofs.Pending.{around_noted, number_within, places_noted, value_fails}
+use Rattle.image_regions.proofs.Pending.{around_noted, number_within, one_filled, places_noted}
 use Rattle.image_regions.proofs.LookedAt.{flood_notes}
 use Rattle.image_regions.proofs.floods.fill_one.Goals as goal
 
@@ -29,8 +28,7 @@ bounds-room-count g c =
     let a = c.args in
     let s = a.fill.now in
     let same : g.T.PartialEq.eq c.in-Some.pixel s.seed ≡ true = grind (arith, c.ne.ensures, c.if-ne.false) in
-    let fails : g.T.PartialEq.eq s.value s.seed ≡ false = value_fails s g.T.PartialEq.eq c.requires.ready.tells c.requires.ready.other in
-    omega (arith, c.requires.ready.enough, one_fewer_where (λ p. g.T.PartialEq.eq p s.seed) (shaped a.cells.now s.shape) a.place.0 a.place.1 c.in-Some.pixel s.value (sym c.get.ensures.pixel ∙ c.in-Some.is) same fails)
+    omega (arith, c.requires.ready.enough, one_filled s g.T.PartialEq.eq c.requires.ready.tells c.requires.ready.other a.cells.now a.place.0 a.place.1 c.in-Some.pixel (sym c.get.ensures.pixel ∙ c.in-Some.is) same)
 
 pub returns-clause-goes_on : goal.returns-clause-goes_on
 returns-clause-goes_on g c h left top rest seeded f =
@@ -46,8 +44,7 @@ returns-clause-fills g c =
     let a = c.args in
     let s = a.fill.now in
     let same : g.T.PartialEq.eq c.in-Some.pixel s.seed ≡ true = grind (arith, c.ne.ensures, c.if-ne.false) in
-    let fails : g.T.PartialEq.eq s.value s.seed ≡ false = value_fails s g.T.PartialEq.eq c.requires.ready.tells c.requires.ready.other in
-    let one = one_fewer_where (λ p. g.T.PartialEq.eq p s.seed) (shaped a.cells.now s.shape) a.place.0 a.place.1 c.in-Some.pixel s.value (sym c.get.ensures.pixel ∙ c.in-Some.is) same fails in
+    let one = one_filled s g.T.PartialEq.eq c.requires.ready.tells c.requires.ready.other a.cells.now a.place.0 a.place.1 c.in-Some.pixel (sym c.get.ensures.pixel ∙ c.in-Some.is) same in
     record {
       fewer = omega (arith, one, ap (places_where (λ p. g.T.PartialEq.eq p s.seed)) c.put.ensures.grid);
       least = omega arith;
