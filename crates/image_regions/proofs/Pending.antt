@@ -1,5 +1,5 @@
 -- Places that are pending: one is noted in a room, or taken off.
-use Rattle.std.proofs.Common.{◌≡◌, ℕ, ◌+◌, ◌-◌, ◌*◌, ◌/◌, ◌%◌, ◌^◌, ◌<◌, ◌≤◌, zero, suc, Bool, List, [], ◌∷◌, ◌++◌, length, take, set, get_or, sym, ap, ◌∙◌, subst, arith, ⊎_elim}
+use Rattle.std.proofs.Common.{◌≡◌, ◌≢◌, true, false, Some, ℕ, ◌+◌, ◌-◌, ◌*◌, ◌/◌, ◌%◌, ◌<◌, ◌≤◌, zero, suc, Bool, List, [], ◌∷◌, ◌++◌, length, take, set, get_or, sym, ap, ◌∙◌, subst, arith, ⊎_elim}
 use Rattle.std.specs.List.{Contains}
 use Rattle.std.proofs.lemmas.Bool.{cases_Bool}
 use Rattle.std.proofs.lemmas.Bool.Decides.{eqb_tells}
@@ -10,9 +10,12 @@ use Rattle.std.proofs.Math.Nat.{mul-le-mul}
 use Rattle.std.proofs.lemmas.Nat.{mod-mul-add, div-mul-add}
 use Rattle.image_model.specs.Connected.{beside}
 use Rattle.image_model.specs.Counts.{hits, place_hits, places_where, places_with}
-use Rattle.image_model.specs.Grid.{grid_of}
+use Rattle.image_model.specs.Grid.{grid_of, patch, uniform}
 use Rattle.image_model.specs.Layout.{Layout}
-use Rattle.image_regions.specs.Pending.{around, ArePlaces}
+use Rattle.image_model.proofs.Puts.{one_fewer_where}
+use Rattle.imgref.specs.Words.{Fits, TellsApart, shape_height, shape_width, shaped}
+use Rattle.image_regions.specs.declared.floods.Fill.{Fill}
+use Rattle.image_regions.specs.Pending.{around, ArePlaces, CanFill, FillsPlaces, cell_grid, places_left}
 
 -- ---- in a room
 
@@ -49,12 +52,6 @@ pub number_within : (width height x y n : ℕ) → x < width → y < height → 
 number_within width height x y n column line is =
     let lines : (y + 1) * width ≤ height * width = mul-le-mul (omega (arith, line)) (omega arith) in
     omega (arith, is, column, lines)
-
-pub number_fits : (width height x y n : ℕ) → width < 2 ^ 32 → height < 2 ^ 32 → x < width → y < height → n ≡ y * width + x → n < 2 ^ 64
-number_fits width height x y n narrow low column line is =
-    let few : width ≤ 4294967295 = omega (arith, narrow) in
-    let short : height ≤ 4294967295 = omega (arith, low) in
-    omega (arith, mul-le-mul few short, number_within width height x y n column line is)
 
 -- ---- lists in another order
 
@@ -111,3 +108,43 @@ places_where_bound test l = place_hits_bound _ l.width l.height
 pub places_with_bound : (value : ℕ) (l : Layout ℕ) → places_with value (grid_of l) ≤ l.width * l.height
 unfolding grid_of places_with
 places_with_bound value l = place_hits_bound _ l.width l.height
+
+-- ---- a fill
+
+module _ {T : Type 0} (fill : Fill T) (eq : T → T → Bool) where
+  -- a place that shows the seed gets the value
+  pub one_filled : TellsApart eq → fill.seed ≢ fill.value → (cells : List T) (x y : ℕ) (p : T) → (cell_grid fill cells).pixel x y ≡ Some p → eq p fill.seed ≡ true
+      → places_where (λ q. eq q fill.seed) (patch (cell_grid fill cells) x y (uniform 1 1 fill.value)) + 1 ≡ places_left fill eq cells
+  one_filled tells other cells x y p shown same =
+      let fails : eq fill.value fill.seed ≡ false = ⊎_elim (λ e. absurd (other (sym ((tells fill.value fill.seed).0 e)))) (λ e. e) (cases_Bool (eq fill.value fill.seed)) in
+      one_fewer_where (λ q. eq q fill.seed) (shaped cells fill.shape) x y p fill.value shown same fails
+
+  -- no place is pending yet
+  pub can_begin : (cells : List T) (room : List ℕ) → Fits (shaped cells fill.shape) → TellsApart eq → fill.seed ≢ fill.value → shape_width fill.shape * shape_height fill.shape ≤ length room → CanFill fill eq cells 0 room
+  can_begin cells room fits tells other enough = record {
+    fits = fits;
+    tells = tells;
+    other = other;
+    enough = omega (arith, enough, places_where_bound (λ p. eq p fill.seed) (shaped cells fill.shape));
+    places = λ k none. absurd (omega (arith, none));
+  }
+
+  -- one is taken off
+  pub one_taken : (cells : List T) (count : ℕ) (room : List ℕ) → CanFill fill eq cells count room → CanFill fill eq cells (count - 1) room
+  one_taken cells count room can = record {
+    fits = can.fits;
+    tells = can.tells;
+    other = can.other;
+    enough = omega (arith, can.enough);
+    places = λ k below. can.places k (omega (arith, below));
+  }
+
+  -- after a step the next one is possible
+  pub can_go_on : (a : List T) (i : ℕ) (p : List ℕ) (b : List T) (j : ℕ) (q : List ℕ) → CanFill fill eq a i p → FillsPlaces fill eq a i p b j q → CanFill fill eq b j q
+  can_go_on a i p b j q can one = record {
+    fits = one.fits;
+    tells = can.tells;
+    other = can.other;
+    enough = omega (arith, can.enough, one.fewer, one.room);
+    places = one.places;
+  }

@@ -10,33 +10,29 @@ use Rattle.image_model.specs.Grid.{Grid, grid_of, patch, uniform}
 use Rattle.image_model.specs.Connected.{IsConnected, start, next}
 use Rattle.image_model.specs.Counts.{is_value, hits, place_hits, places_with}
 use Rattle.image_model.specs.Regions.{unlabelled, HasRegion}
-use Rattle.image_model.proofs.Patches.{put_pixel}
+use Rattle.image_model.proofs.Places.{outside_trans}
 use Rattle.image_model.proofs.Puts.{put_cases, one_fewer}
 use Rattle.image_model.proofs.Reading.{is_a_place}
 use Rattle.image_model.proofs.Regions.{open_by, open_is, open_tells, open_at, labelled_place}
-use Rattle.image_regions.specs.Runs.{ShowsAlong, FillsRun, AddsLabel, IsPending, IsLookedAt, Spreading}
+use Rattle.imgref.specs.Words.{ref_grid, shape_height, shape_width, shaped}
+use Rattle.image_regions.proofs.Pending.{places_with_bound}
+use Rattle.image_regions.specs.declared.labels.Run.{Run}
+use Rattle.image_regions.specs.declared.labels.Search.{Search}
+use Rattle.image_regions.specs.Runs.{ShowsAlong, FillsRun, AddsLabel, IsPending, IsInRun, no_run, Spreading, AddsRuns, CanSpread, HasLabels, label_grid, open_places}
 
--- ---- a run that is filled
+-- ---- a run that is found
 
--- no place of it yet
-pub fills_none : (n y from : ℕ) (h : Grid ℕ) → FillsRun n y from from h h
-fills_none n y from h = record { along = λ u p q. absurd (omega (arith, p, q)); each = λ u v. inl refl }
+module _ {P : Type 0} (h : Grid P) (p : P) where
+  -- two parts of it
+  pub shows_both : (y from x to : ℕ) → ShowsAlong h p y from x → ShowsAlong h p y x to → ShowsAlong h p y from to
+  shows_both y from x to before after u l r = ⊎_elim (λ low. before u l low) (λ high. after u high r) (cases_lt u x)
 
--- one place more
-pub fills_more : (n y from to : ℕ) (old : Grid ℕ) (l k : Layout ℕ) → from ≤ to → to < l.width → y < l.height → grid_of k ≡ patch (grid_of l) to y (uniform 1 1 n) → FillsRun n y from to old (grid_of l) → FillsRun n y from (to + 1) old (grid_of k)
-fills_more n y from to old l k order column line put f = record {
-  along = λ u p q. ⊎_elim
-      (λ at. ap (λ z. (grid_of k).pixel z y) at.1 ∙ ap (λ h. h.pixel to y) put ∙ put_pixel l to y n column line)
-      (λ other. ⊎_elim (λ same. same ∙ f.along u p (omega (arith, q, other.1))) (λ at. at.2) (cases u y))
-      (eqb_tells u to);
-  each = λ u v. ⊎_elim
-      (λ same. ⊎_elim (λ s. inl (same ∙ s)) (λ r. inr (r.0, r.1, omega (arith, r), same ∙ r.3)) (f.each u v))
-      (λ at. inr (at.1, omega (arith, at.0, order), omega (arith, at.0), at.2))
-      (cases u v);
-}
-  where
-    cases : (u v : ℕ) → ((grid_of k).pixel u v ≡ (grid_of l).pixel u v) ⊎ ((u ≡ to) × (v ≡ y) × ((grid_of k).pixel u v ≡ Some n))
-    cases u v = subst (λ h. (h.pixel u v ≡ (grid_of l).pixel u v) ⊎ ((u ≡ to) × (v ≡ y) × (h.pixel u v ≡ Some n))) (sym put) (put_cases l to y n column line u v)
+  -- it has the place that it was found from
+  pub ends_after : (y x to : ℕ) → x ≤ to → h.pixel x y ≡ Some p → h.pixel to y ≢ Some p → x < to
+  ends_after y x to after shows ends = ⊎_elim
+      (λ at. absurd (ends (ap (λ z. h.pixel z y) (sym at.1) ∙ shows)))
+      (λ other. omega (arith, other.1, after))
+      (eqb_tells x to)
 
 -- ---- labels that are added
 
@@ -173,7 +169,7 @@ module _ {T : Type 0} (test : T → Bool) (g : Grid T) where
           (cases_lt u i)
 
     -- at the beginning no place has the label
-    pub spread_begins : (w : ℕ) (room : List ℕ) → free.pixel x y ≡ Some true → ((u v : ℕ) → (grid_of b).pixel u v ≢ Some n) → Spreading test g x y n (grid_of b) (grid_of b) w 0 room 0 0 0
+    pub spread_begins : (w : ℕ) (room : List ℕ) → free.pixel x y ≡ Some true → ((u v : ℕ) → (grid_of b).pixel u v ≢ Some n) → Spreading test g x y n (grid_of b) (grid_of b) w 0 room no_run
     spread_begins w room first fresh = record {
       first = first;
       each = λ u v. inl refl;
@@ -183,9 +179,9 @@ module _ {T : Type 0} (test : T → Bool) (g : Grid T) where
     }
 
     -- a run gets it, and is pending from then on
-    module _ (l k : Layout ℕ) (w count : ℕ) (room : List ℕ) (row from to a e i j : ℕ) (fills : FillsRun n j a e (grid_of l) (grid_of k)) (left : a ≤ i) (right : i < e)
+    module _ (l k : Layout ℕ) (w count : ℕ) (room : List ℕ) (looked : Run) (a e i j : ℕ) (fills : FillsRun n j a e (grid_of l) (grid_of k)) (left : a ≤ i) (right : i < e)
         (opened : ShowsAlong (unlabelled test g (grid_of l)) true j a e) (starts : (u : ℕ) → u + 1 ≡ a → (unlabelled test g (grid_of l)).pixel u j ≢ Some true) (ends : (unlabelled test g (grid_of l)).pixel e j ≢ Some true)
-        (below : count < length room) (path : IsConnected free x y i j) (f : Spreading test g x y n (grid_of b) (grid_of l) w count room row from to) where
+        (below : count < length room) (path : IsConnected free x y i j) (f : Spreading test g x y n (grid_of b) (grid_of l) w count room looked) where
       abbrev pub more : List ℕ
       more = set room count (j * w + a)
 
@@ -205,7 +201,7 @@ module _ {T : Type 0} (test : T → Bool) (g : Grid T) where
       stays : (u v : ℕ) → IsPending n (grid_of l) w count room u v → IsPending n (grid_of k) w (count + 1) more u v
       stays u v (q, c, few, is, le, all) = (q, c, omega (arith, few), get_or-set_other room count q (j * w + a) 0 (λ s. omega (arith, s, few)) ∙ is, le, λ m p r. keeps m v (all m p r))
 
-      pub run_spreads : Spreading test g x y n (grid_of b) (grid_of k) w (count + 1) more row from to
+      pub run_spreads : Spreading test g x y n (grid_of b) (grid_of k) w (count + 1) more looked
       run_spreads = record {
         first = f.first;
         each = λ u v. ⊎_elim (λ same. ⊎_elim (λ s. inl (same ∙ s)) (λ has. inr (same ∙ has)) (f.each u v)) (λ r. inr r.3) (fills.each u v);
@@ -224,9 +220,9 @@ module _ {T : Type 0} (test : T → Bool) (g : Grid T) where
       }
 
     -- the last run in the room is taken off, to be looked at
-    pub run_taken : (l : Layout ℕ) (w count : ℕ) (room : List ℕ) (row from to : ℕ) → from < w → l.width ≡ w → slice_index room count ≡ row * w + from → from ≤ to → ShowsAlong (grid_of l) n row from to → (grid_of l).pixel to row ≢ Some n
-        → Spreading test g x y n (grid_of b) (grid_of l) w (count + 1) room 0 0 0 → Spreading test g x y n (grid_of b) (grid_of l) w count room row from to
-    run_taken l w count room row from to column wide number order along ends f = record {
+    pub run_taken : (l : Layout ℕ) (w count : ℕ) (room : List ℕ) (looked : Run) → looked.from < w → l.width ≡ w → slice_index room count ≡ looked.y * w + looked.from → looked.from ≤ looked.to → ShowsAlong (grid_of l) n looked.y looked.from looked.to → (grid_of l).pixel looked.to looked.y ≢ Some n
+        → Spreading test g x y n (grid_of b) (grid_of l) w (count + 1) room no_run → Spreading test g x y n (grid_of b) (grid_of l) w count room looked
+    run_taken l w count room looked column wide number order along ends f = record {
       first = f.first;
       each = f.each;
       own = f.own;
@@ -236,43 +232,43 @@ module _ {T : Type 0} (test : T → Bool) (g : Grid T) where
           (f.down u v m has step is);
     }
       where
-        taken : (u v : ℕ) → IsPending n (grid_of l) w (count + 1) room u v → IsPending n (grid_of l) w count room u v ⊎ IsLookedAt row from to u v
+        taken : (u v : ℕ) → IsPending n (grid_of l) w (count + 1) room u v → IsPending n (grid_of l) w count room u v ⊎ IsInRun looked u v
         taken u v (q, a, few, is, le, all) = ⊎_elim
             (λ last.
-            let same : v * w + a ≡ row * w + from = sym is ∙ ap (slice_index room) last.1 ∙ number in
+            let same : v * w + a ≡ looked.y * w + looked.from = sym is ∙ ap (slice_index room) last.1 ∙ number in
             let within : a < w = omega (arith, wide, (is_a_place l a v n (all a (omega arith) (omega (arith, le)))).0) in
-            let line : v ≡ row = sym (div-mul-add v w a within) ∙ ap (λ z. z / w) same ∙ div-mul-add row w from column in
-            let at : a ≡ from = sym (mod-mul-add v w a within) ∙ ap (λ z. z % w) same ∙ mod-mul-add row w from column in
+            let line : v ≡ looked.y = sym (div-mul-add v w a within) ∙ ap (λ z. z / w) same ∙ div-mul-add looked.y w looked.from column in
+            let at : a ≡ looked.from = sym (mod-mul-add v w a within) ∙ ap (λ z. z % w) same ∙ mod-mul-add looked.y w looked.from column in
             ⊎_elim
             (λ before. inr (line, omega (arith, at, le), before))
-            (λ past. absurd (ends (subst (λ z. (grid_of l).pixel to z ≡ Some n) line (all to (omega (arith, at, order)) (omega (arith, past))))))
-            (cases_lt u to))
+            (λ past. absurd (ends (subst (λ z. (grid_of l).pixel looked.to z ≡ Some n) line (all looked.to (omega (arith, at, order)) (omega (arith, past))))))
+            (cases_lt u looked.to))
             (λ other. inl (q, a, omega (arith, few, other.1), is, le, all))
             (eqb_tells q count)
 
     -- a place beside one with the label that was open at the beginning is connected
-    pub connected_on : (l : Layout ℕ) (w count : ℕ) (room : List ℕ) (row from to : ℕ) → Spreading test g x y n (grid_of b) (grid_of l) w count room row from to → (u v m : ℕ) → (grid_of l).pixel u v ≡ Some n → (m ≡ v) ⊎ ((m ≡ v + 1) ⊎ (v ≡ m + 1))
+    pub connected_on : (l : Layout ℕ) (w count : ℕ) (room : List ℕ) (looked : Run) → Spreading test g x y n (grid_of b) (grid_of l) w count room looked → (u v m : ℕ) → (grid_of l).pixel u v ≡ Some n → (m ≡ v) ⊎ ((m ≡ v + 1) ⊎ (v ≡ m + 1))
         → free.pixel u m ≡ Some true → IsConnected free x y u m
-    connected_on l w count room row from to f u v m has step is = ⊎_elim
+    connected_on l w count room looked f u v m has step is = ⊎_elim
         (λ s. subst (λ z. IsConnected free x y u z) (sym s) (f.own u v has))
         (λ s. next (f.own u v has) (inr (refl, s)) (is ∙ sym f.first))
         step
 
     -- the run was looked at
-    pub run_done : (l : Layout ℕ) (w count : ℕ) (room : List ℕ) (row from to : ℕ) → ((u m : ℕ) → from ≤ u → u < to → (m ≡ row + 1) ⊎ (row ≡ m + 1) → free.pixel u m ≡ Some true → (grid_of l).pixel u m ≡ Some n)
-        → Spreading test g x y n (grid_of b) (grid_of l) w count room row from to → Spreading test g x y n (grid_of b) (grid_of l) w count room 0 0 0
-    run_done l w count room row from to looked f = record {
+    pub run_done : (l : Layout ℕ) (w count : ℕ) (room : List ℕ) (looked : Run) → ((u m : ℕ) → looked.from ≤ u → u < looked.to → (m ≡ looked.y + 1) ⊎ (looked.y ≡ m + 1) → free.pixel u m ≡ Some true → (grid_of l).pixel u m ≡ Some n)
+        → Spreading test g x y n (grid_of b) (grid_of l) w count room looked → Spreading test g x y n (grid_of b) (grid_of l) w count room no_run
+    run_done l w count room looked done f = record {
       first = f.first;
       each = f.each;
       own = f.own;
       across = f.across;
       down = λ u v m has step is. ⊎_elim inl
-          (λ p. ⊎_elim (λ q. inr (inl q)) (λ at. inl (looked u m at.1 at.2 (subst (λ z. (m ≡ z + 1) ⊎ (z ≡ m + 1)) at.0 step) is)) p)
+          (λ p. ⊎_elim (λ q. inr (inl q)) (λ at. inl (done u m at.1 at.2 (subst (λ z. (m ≡ z + 1) ⊎ (z ≡ m + 1)) at.0 step) is)) p)
           (f.down u v m has step is);
     }
 
     -- no run is pending: the region has its label
-    pub spread_ends : (l : Layout ℕ) (w count : ℕ) (room : List ℕ) → count ≡ 0 → (grid_of l).pixel x y ≡ Some n → Spreading test g x y n (grid_of b) (grid_of l) w count room 0 0 0 → HasRegion test g x y n (grid_of b) (grid_of l)
+    pub spread_ends : (l : Layout ℕ) (w count : ℕ) (room : List ℕ) → count ≡ 0 → (grid_of l).pixel x y ≡ Some n → Spreading test g x y n (grid_of b) (grid_of l) w count room no_run → HasRegion test g x y n (grid_of b) (grid_of l)
     spread_ends l w count room none labelled f = record { each = λ u v. ⊎_elim inl (λ has. inr (f.own u v has, has)) (f.each u v); all = reached }
       where
         reached : (u v : ℕ) → IsConnected free x y u v → (grid_of l).pixel u v ≡ Some n
@@ -285,5 +281,47 @@ module _ {T : Type 0} (test : T → Bool) (g : Grid T) where
             (f.down i j v (reached i j path) c.1 (subst (λ z. free.pixel z v ≡ Some true) (sym c.0) (same ∙ f.first)))))
             step
 
--- these laws, for `using`
-pub ruleset runs = (fills_none, fills_more, outside_closed, closed_stays)
+-- ---- a search
+
+module _ {T : Type 0} (search : Search T) where
+  -- one step after the other
+  pub adds_on : (a : List ℕ) (i : ℕ) (p b : List ℕ) (j : ℕ) (q c : List ℕ) (k : ℕ) (r : List ℕ) → AddsRuns search a i p b j q → AddsRuns search b j q c k r → AddsRuns search a i p c k r
+  adds_on a i p b j q c k r one two = record {
+    adds = adds_both search.label (label_grid search a) (label_grid search b) (label_grid search c) one.adds two.adds;
+    fewer = omega (arith, one.fewer, two.fewer);
+    places = two.places;
+    room = two.room ∙ one.room;
+    outside = outside_trans (shaped a search.shape) (shaped b search.shape) (shaped c search.shape) one.outside two.outside;
+    fits = two.fits;
+  }
+
+  -- an open place is one of the image
+  pub open_place : (eq : T → T → Bool) (labels : List ℕ) (x y : ℕ) → (open_places search eq labels).pixel x y ≡ Some true → (x < shape_width search.shape) × (y < shape_height search.shape)
+  open_place eq labels x y is = is_a_place (shaped labels search.shape) x y 0 (tells (λ p. eq p search.seed) (ref_grid search.image) (shaped labels search.shape) x y is).0
+
+  -- no run is pending yet
+  pub can_begin : (labels room : List ℕ) → HasLabels search labels → 0 < search.label → shape_width search.shape * shape_height search.shape ≤ length room → CanSpread search labels 0 room
+  can_begin labels room fit some enough = record {
+    fit = fit;
+    some = some;
+    enough = omega (arith, enough, places_with_bound 0 (shaped labels search.shape));
+    places = λ k none. absurd (omega (arith, none));
+  }
+
+  -- one is taken off
+  pub one_taken : (labels : List ℕ) (count : ℕ) (room : List ℕ) → CanSpread search labels count room → CanSpread search labels (count - 1) room
+  one_taken labels count room can = record {
+    fit = can.fit;
+    some = can.some;
+    enough = omega (arith, can.enough);
+    places = λ k below. can.places k (omega (arith, below));
+  }
+
+  -- after a step the next one is possible
+  pub can_go_on : (a : List ℕ) (i : ℕ) (p b : List ℕ) (j : ℕ) (q : List ℕ) → CanSpread search a i p → AddsRuns search a i p b j q → CanSpread search b j q
+  can_go_on a i p b j q can one = record {
+    fit = record { fits = can.fit.fits; labels_fit = one.fits; width = can.fit.width; height = can.fit.height };
+    some = can.some;
+    enough = omega (arith, can.enough, one.fewer, one.room);
+    places = one.places;
+  }

@@ -1,127 +1,108 @@
 //! A flood fill: a place and everything connected with it get a value.
 
-ghost use Rattle.std.specs.Prelude.{◌≡◌, ◌≢◌, ◌<◌, ◌≤◌, ◌+◌, ◌*◌, ◌/◌, ◌%◌, ◌∷◌, ◌++◌, [], ℕ, IfOk, IfErr, List, Some, length, take};
+ghost use Rattle.std.specs.Prelude.{◌≡◌, ◌≢◌, ◌<◌, ◌≤◌, ◌+◌, ◌*◌, ◌/◌, ◌%◌, ◌∷◌, ◌++◌, [], ℕ, IfOk, IfErr, List, Some, length};
 ghost use Rattle.image_model.specs.Grid.{Grid};
-ghost use Rattle.imgref.specs.Words.{AllFilled, AreFilled, Fits, Flooding, SameOutside, TellsApart, beside, grid_of, places_where, height_of, shape_height, shape_width, shaped, vec_grid, vec_layout, width_of};
-ghost use Rattle.image_regions.specs.Pending.{ArePlaces, around};
+ghost use Rattle.imgref.specs.Words.{AllFilled, AreFilled, Fits, Flooding, SameOutside, TellsApart, beside, grid_of, height_of, shape_height, shape_width, shaped, vec_grid, vec_layout, width_of};
+ghost use Rattle.image_regions.specs.Pending.{CanFill, FillsPlaces, cell_grid, to_look_at};
 
 use crate::pixels::{at, get, put};
 use imgref::{ImgVec, Shape};
 use std::alloc::{AllocError, Global};
 
+// What a fill does: in cells of this shape, places that show the seed get the value.
+#[derive(Clone, Copy)]
+struct Fill<T> {
+    shape: Shape,
+    seed: T,
+    value: T,
+}
+
 // A place that shows the seed gets the value, and is pending from then on: the places beside it have
 // to be looked at. So a place is pending at most once. Returns how many places are.
 #[tactic(auto, using(image_model::proofs::Laws::reads, image_model::proofs::Laws::writes))]
 fn fill_one<T: Copy + PartialEq>(
+    fill: &Fill<T>,
     cells: &mut [T],
-    shape: Shape,
     room: &mut [usize],
     count: usize,
-    seed: T,
-    value: T,
     place: (usize, usize),
 ) -> usize
-    requires fits { Fits (shaped cells.old shape) }
-    requires tells { TellsApart T.eq }
-    requires other { seed ≢ value }
-    requires room { count + places_where (λ p. T.eq p seed) (grid_of (shaped cells.old shape))
-        ≤ length room.old }
-    requires places { ArePlaces (shape_width shape * shape_height shape) count room.old }
+    requires ready { CanFill fill.now T.eq cells.old count room.old }
     ensures goes_on { (g : Grid T) (left top : ℕ) (rest : List (ℕ × ℕ))
-        → g.pixel left top ≡ Some seed
-        → Flooding g left top value (grid_of (shaped cells.old shape))
-        (around (shape_width shape) (take count room.old) ++ rest ++ (place.0, place.1) ∷ [])
-        → Flooding g left top value (grid_of (shaped cells.new shape))
-        (around (shape_width shape) (take result room.new) ++ rest) }
-    ensures fewer { result + places_where (λ p. T.eq p seed) (grid_of (shaped cells.new shape))
-        ≡ count + places_where (λ p. T.eq p seed) (grid_of (shaped cells.old shape)) }
-    ensures more { count ≤ result }
-    ensures places { ArePlaces (shape_width shape * shape_height shape) result room.new }
-    ensures room { length room.new ≡ length room.old }
-    ensures outside { SameOutside (shaped cells.old shape) (shaped cells.new shape) }
-    ensures fits { Fits (shaped cells.new shape) }
+        → g.pixel left top ≡ Some fill.now.seed
+        → Flooding g left top fill.now.value (cell_grid fill.now cells.old)
+        (to_look_at fill.now count room.old ++ rest ++ (place.0, place.1) ∷ [])
+        → Flooding g left top fill.now.value (cell_grid fill.now cells.new)
+        (to_look_at fill.now result room.new ++ rest) }
+    ensures fills { FillsPlaces fill.now T.eq cells.old count room.old cells.new result room.new }
 {
     let (x, y) = place;
-    let Some(pixel) = get(cells, shape, x, y) else {
+    let Some(pixel) = get(cells, fill.shape, x, y) else {
         return count;
     };
-    if pixel != seed {
+    if pixel != fill.seed {
         return count;
     }
-    put(cells, shape, x, y, value);
+    put(cells, fill.shape, x, y, fill.value);
     // (both sizes are below 2^32, so the number fits)
-    let _rows = shape.height();
-    room[count] = y * shape.width() + x;
+    let _rows = fill.shape.height();
+    room[count] = y * fill.shape.width() + x;
     count + 1
 }
 
 // The places beside a pending one are looked at, which is taken off before.
 fn fill_around<T: Copy + PartialEq>(
+    fill: &Fill<T>,
     cells: &mut [T],
-    shape: Shape,
     room: &mut [usize],
     count: usize,
-    seed: T,
-    value: T,
     number: usize,
 ) -> usize
-    requires fits { Fits (shaped cells.old shape) }
-    requires tells { TellsApart T.eq }
-    requires other { seed ≢ value }
-    requires room { count + places_where (λ p. T.eq p seed) (grid_of (shaped cells.old shape))
-        ≤ length room.old }
-    requires places { ArePlaces (shape_width shape * shape_height shape) count room.old }
-    requires inside { number < shape_width shape * shape_height shape }
-    ensures goes_on { (g : Grid T) (left top : ℕ) → g.pixel left top ≡ Some seed
-        → Flooding g left top value (grid_of (shaped cells.old shape))
-        (around (shape_width shape) (take count room.old)
-        ++ beside (number % shape_width shape) (number / shape_width shape))
-        → Flooding g left top value (grid_of (shaped cells.new shape))
-        (around (shape_width shape) (take result room.new)) }
-    ensures fewer { result + places_where (λ p. T.eq p seed) (grid_of (shaped cells.new shape))
-        ≡ count + places_where (λ p. T.eq p seed) (grid_of (shaped cells.old shape)) }
-    ensures more { count ≤ result }
-    ensures places { ArePlaces (shape_width shape * shape_height shape) result room.new }
-    ensures room { length room.new ≡ length room.old }
-    ensures outside { SameOutside (shaped cells.old shape) (shaped cells.new shape) }
-    ensures fits { Fits (shaped cells.new shape) }
+    requires ready { CanFill fill.now T.eq cells.old count room.old }
+    requires inside { number < shape_width fill.now.shape * shape_height fill.now.shape }
+    ensures goes_on { (g : Grid T) (left top : ℕ) → g.pixel left top ≡ Some fill.now.seed
+        → Flooding g left top fill.now.value (cell_grid fill.now cells.old)
+        (to_look_at fill.now count room.old
+        ++ beside (number % shape_width fill.now.shape) (number / shape_width fill.now.shape))
+        → Flooding g left top fill.now.value (cell_grid fill.now cells.new)
+        (to_look_at fill.now result room.new) }
+    ensures fills { FillsPlaces fill.now T.eq cells.old count room.old cells.new result room.new }
 {
-    let width = shape.width();
-    let _height = shape.height();
+    let width = fill.shape.width();
+    let _height = fill.shape.height();
     let (x, y) = (number % width, number / width);
     let above = (x, y.saturating_sub(1));
     let before = (x.saturating_sub(1), y);
-    let count = fill_one(cells, shape, room, count, seed, value, above);
-    let count = fill_one(cells, shape, room, count, seed, value, before);
-    let count = fill_one(cells, shape, room, count, seed, value, (x, y + 1));
-    fill_one(cells, shape, room, count, seed, value, (x + 1, y))
+    let count = fill_one(fill, cells, room, count, above);
+    let count = fill_one(fill, cells, room, count, before);
+    let count = fill_one(fill, cells, room, count, (x, y + 1));
+    fill_one(fill, cells, room, count, (x + 1, y))
 }
 
 // Gives the value to a place that shows the seed, and to each place that is connected with it.
 fn fill_from<T: Copy + PartialEq>(
+    fill: &Fill<T>,
     cells: &mut [T],
-    shape: Shape,
     room: &mut [usize],
-    seed: T,
-    value: T,
     place: (usize, usize),
 )
-    requires fits { Fits (shaped cells.old shape) }
+    requires fits { Fits (shaped cells.old fill.now.shape) }
     requires tells { TellsApart T.eq }
-    requires other { seed ≢ value }
-    requires shows { (grid_of (shaped cells.old shape)).pixel place.0 place.1 ≡ Some seed }
-    requires room { shape_width shape * shape_height shape ≤ length room.old }
-    ensures filled { AreFilled place.0 place.1 value (grid_of (shaped cells.old shape))
-        (grid_of (shaped cells.new shape)) }
-    ensures all { AllFilled place.0 place.1 value (grid_of (shaped cells.old shape))
-        (grid_of (shaped cells.new shape)) }
-    ensures outside { SameOutside (shaped cells.old shape) (shaped cells.new shape) }
+    requires other { fill.now.seed ≢ fill.now.value }
+    requires shows { (cell_grid fill.now cells.old).pixel place.0 place.1 ≡ Some fill.now.seed }
+    requires room { shape_width fill.now.shape * shape_height fill.now.shape ≤ length room.old }
+    ensures filled { AreFilled place.0 place.1 fill.now.value (cell_grid fill.now cells.old)
+        (cell_grid fill.now cells.new) }
+    ensures all { AllFilled place.0 place.1 fill.now.value (cell_grid fill.now cells.old)
+        (cell_grid fill.now cells.new) }
+    ensures outside { SameOutside (shaped cells.old fill.now.shape)
+        (shaped cells.new fill.now.shape) }
 {
-    let mut count = fill_one(cells, shape, room, 0, seed, value, place);
+    let mut count = fill_one(fill, cells, room, 0, place);
     while count > 0 {
         count -= 1;
         let number = room[count];
-        count = fill_around(cells, shape, room, count, seed, value, number);
+        count = fill_around(fill, cells, room, count, number);
     }
 }
 
@@ -157,7 +138,7 @@ pub fn flood_fill_in<T: Copy + PartialEq>(
     if seed == value {
         return;
     }
-    fill_from(cells, shape, room, seed, value, (x, y));
+    fill_from(&Fill { shape, seed, value }, cells, room, (x, y));
 }
 
 /// Gives `value` to column `x` of row `y`, and to each place that is connected with it, as

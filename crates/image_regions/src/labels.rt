@@ -1,11 +1,10 @@
 //! Labels of connected regions.
 
-ghost use Rattle.std.specs.Prelude.{◌≡◌, ◌≢◌, ◌<◌, ◌≤◌, ◌+◌, ◌*◌, ℕ, Some, true, IfOk, length};
-ghost use Rattle.image_model.specs.Layout.{Layout};
-ghost use Rattle.image_model.specs.Regions.{HasRegion, IsLabelStep, Labelled, unlabelled};
-ghost use Rattle.imgref.specs.Words.{AreRegions, Fits, IsConnected, SameOutside, TellsApart, grid_of, places_with, height_of, ref_grid, ref_layout, shape_height, shape_width, shaped, vec_grid, vec_layout, width_of};
-ghost use Rattle.image_regions.specs.Pending.{ArePlaces};
-ghost use Rattle.image_regions.specs.Runs.{AddsLabel, CanBeLabelled, FillsRun, ShowsAlong, Spreading, SpreadsOn};
+ghost use Rattle.std.specs.Prelude.{◌≡◌, ◌≢◌, ◌<◌, ◌≤◌, ◌+◌, ◌*◌, ℕ, List, Some, true, false, IfOk, length};
+ghost use Rattle.image_model.specs.Regions.{HasRegion, IsLabelStep, Labelled};
+ghost use Rattle.imgref.specs.Words.{AreRegions, Fits, IsConnected, SameOutside, TellsApart, grid_of, height_of, ref_grid, ref_layout, shape_height, shape_width, shaped, vec_grid, vec_layout, width_of};
+ghost use Rattle.image_regions.specs.Runs.{AddsRuns, CanBeLabelled, CanSpread, EndsAt, FillsRun, HasLabels, IsSpreading, ShowsAlong, SpreadsOn, label_grid, no_run, open_places};
+ghost use Rattle.image_regions.specs.declared.labels.Run.{Run};
 
 use crate::pixels::{at, put};
 use imgref::{ImgRef, ImgVec, Shape, fill_pixels};
@@ -20,50 +19,57 @@ pub struct Regions {
     pub count: u64,
 }
 
+// The image in which a region is searched for, and the shape of the labels. The region's places show
+// the seed, and get the label.
+#[derive(Clone, Copy)]
+struct Search<'a, T> {
+    image: ImgRef<'a, T>,
+    shape: Shape,
+    seed: T,
+    label: u64,
+}
+
+// The places of row `y` from one column up to another one.
+#[derive(Clone, Copy)]
+struct Run {
+    y: usize,
+    from: usize,
+    to: usize,
+}
+
 // Whether a place has no label and shows the seed.
 #[inline(always)]
 #[tactic(auto, using(image_model::proofs::Laws::reads))]
-fn is_open<T: Copy + PartialEq>(
-    image: ImgRef<'_, T>,
-    labels: &[u64],
-    shape: Shape,
-    seed: T,
-    x: usize,
-    y: usize,
-) -> bool
-    requires labels { CanBeLabelled (ref_layout image) (shaped labels.now shape) }
-    requires column { x < shape_width shape }
-    requires row { y < shape_height shape }
-    ensures { (unlabelled (λ p. T.eq p seed) (ref_grid image.entry)
-        (grid_of (shaped labels.now shape))).pixel x y ≡ Some result }
+fn is_open<T: Copy + PartialEq>(search: &Search<'_, T>, labels: &[u64], x: usize, y: usize) -> bool
+    requires labels { HasLabels search.now labels.now }
+    requires column { x < shape_width search.now.shape }
+    requires row { y < shape_height search.now.shape }
+    ensures { (open_places search.now T.eq labels.now).pixel x y ≡ Some result }
 {
-    if at(labels, shape, x, y) != 0 {
+    if at(labels, search.shape, x, y) != 0 {
         return false;
     }
-    image[(x, y)] == seed
+    search.image[(x, y)] == search.seed
 }
 
 // The first column of the run of an open place: the places from there on are open.
 fn run_start<T: Copy + PartialEq>(
-    image: ImgRef<'_, T>,
+    search: &Search<'_, T>,
     labels: &[u64],
-    shape: Shape,
-    seed: T,
     x: usize,
     y: usize,
 ) -> usize
-    requires labels { CanBeLabelled (ref_layout image) (shaped labels.now shape) }
-    requires column { x < shape_width shape }
-    requires row { y < shape_height shape }
+    requires labels { HasLabels search.now labels.now }
+    requires column { x < shape_width search.now.shape }
+    requires row { y < shape_height search.now.shape }
     ensures before { result ≤ x }
-    ensures run { ShowsAlong (unlabelled (λ p. T.eq p seed) (ref_grid image.entry)
-        (grid_of (shaped labels.now shape))) true y result x }
-    ensures starts { (u : ℕ) → u + 1 ≡ result → (unlabelled (λ p. T.eq p seed) (ref_grid image.entry)
-        (grid_of (shaped labels.now shape))).pixel u y ≢ Some true }
+    ensures run { ShowsAlong (open_places search.now T.eq labels.now) true y result x }
+    ensures starts { (u : ℕ) → u + 1 ≡ result
+        → (open_places search.now T.eq labels.now).pixel u y ≢ Some true }
 {
     let mut start = x;
     while start > 0 {
-        if !is_open(image, labels, shape, seed, start - 1, y) {
+        if !is_open(search, labels, start - 1, y) {
             return start;
         }
         start -= 1;
@@ -71,31 +77,33 @@ fn run_start<T: Copy + PartialEq>(
     start
 }
 
-// The first column from some place on whose place isn't open, or the width.
-fn run_end<T: Copy + PartialEq>(
-    image: ImgRef<'_, T>,
-    labels: &[u64],
-    shape: Shape,
-    seed: T,
-    x: usize,
-    y: usize,
-) -> usize
-    requires labels { CanBeLabelled (ref_layout image) (shaped labels.now shape) }
+// The first column from some place on for which a test fails, or the width.
+#[inline(always)]
+fn end_of<F: Fn(usize) -> bool>(shape: Shape, x: usize, passes: F) -> usize
     requires column { x < shape_width shape }
-    requires row { y < shape_height shape }
+    requires callable { (u : ℕ) → u < shape_width shape → F.pre passes u }
     ensures after { x ≤ result }
     ensures within { result ≤ shape_width shape }
-    ensures run { ShowsAlong (unlabelled (λ p. T.eq p seed) (ref_grid image.entry)
-        (grid_of (shaped labels.now shape))) true y x result }
-    ensures ends { (unlabelled (λ p. T.eq p seed) (ref_grid image.entry)
-        (grid_of (shaped labels.now shape))).pixel result y ≢ Some true }
+    ensures along { (u : ℕ) → x ≤ u → u < result → F.post passes u true }
+    ensures ends { result < shape_width shape → F.post passes result false }
 {
     for column in x..shape.width() {
-        if !is_open(image, labels, shape, seed, column, y) {
+        if !passes(column) {
             return column;
         }
     }
     shape.width()
+}
+
+// The first column from some place on whose place isn't open, or the width.
+fn run_end<T: Copy + PartialEq>(search: &Search<'_, T>, labels: &[u64], x: usize, y: usize) -> usize
+    requires labels { HasLabels search.now labels.now }
+    requires column { x < shape_width search.now.shape }
+    requires row { y < shape_height search.now.shape }
+    ensures within { result ≤ shape_width search.now.shape }
+    ensures run { EndsAt (open_places search.now T.eq labels.now) true y x result }
+{
+    end_of(search.shape, x, |column| is_open(search, labels, column, y))
 }
 
 // The first column from some place on whose place hasn't the label, or the width.
@@ -103,127 +111,86 @@ fn label_end(labels: &[u64], shape: Shape, label: u64, x: usize, y: usize) -> us
     requires labels_fit { Fits (shaped labels.now shape) }
     requires column { x < shape_width shape }
     requires row { y < shape_height shape }
-    ensures after { x ≤ result }
     ensures within { result ≤ shape_width shape }
-    ensures run { ShowsAlong (grid_of (shaped labels.now shape)) label y x result }
-    ensures ends { (grid_of (shaped labels.now shape)).pixel result y ≢ Some label }
+    ensures run { EndsAt (grid_of (shaped labels.now shape)) label y x result }
 {
-    for column in x..shape.width() {
-        if at(labels, shape, column, y) != label {
-            return column;
-        }
-    }
-    shape.width()
+    end_of(shape, x, |column| at(labels, shape, column, y) == label)
 }
 
-// Gives the label to the places of row `y` from one column up to another one.
+// Gives the label to the places of a run.
 #[tactic(auto, using(image_model::proofs::Laws::writes))]
-fn fill_run(labels: &mut [u64], shape: Shape, label: u64, from: usize, to: usize, y: usize)
+fn fill_run(labels: &mut [u64], shape: Shape, label: u64, run: Run)
     requires labels_fit { Fits (shaped labels.old shape) }
-    requires order { from ≤ to }
-    requires within { to ≤ shape_width shape }
-    requires row { y < shape_height shape }
-    ensures fills { FillsRun label y from to (grid_of (shaped labels.old shape))
+    requires order { run.from ≤ run.to }
+    requires within { run.to ≤ shape_width shape }
+    requires row { run.y < shape_height shape }
+    ensures fills { FillsRun label run.y run.from run.to (grid_of (shaped labels.old shape))
         (grid_of (shaped labels.new shape)) }
     ensures outside { SameOutside (shaped labels.old shape) (shaped labels.new shape) }
     ensures fits { Fits (shaped labels.new shape) }
 {
-    for column in from..to {
-        put(labels, shape, column, y, label);
+    for column in run.from..run.to {
+        put(labels, shape, column, run.y, label);
     }
 }
 
 // Gives the label to the run of an open place, which is pending from then on: the places above and
 // below have to be looked at. Returns the column after the run.
 fn label_run<T: Copy + PartialEq>(
-    image: ImgRef<'_, T>,
+    search: &Search<'_, T>,
     labels: &mut [u64],
-    shape: Shape,
     room: &mut [usize],
     count: usize,
-    seed: T,
-    label: u64,
     x: usize,
     y: usize,
 ) -> usize
-    requires labels { CanBeLabelled (ref_layout image) (shaped labels.old shape) }
-    requires some { 0 < label }
-    requires room { count + places_with 0 (grid_of (shaped labels.old shape)) ≤ length room.old }
-    requires places { ArePlaces (shape_width shape * shape_height shape) count room.old }
-    requires column { x < shape_width shape }
-    requires row { y < shape_height shape }
-    requires clear { (unlabelled (λ p. T.eq p seed) (ref_grid image)
-        (grid_of (shaped labels.old shape))).pixel x y ≡ Some true }
-    ensures goes_on { (begun : Layout ℕ) (left top row from to : ℕ)
-        → IsConnected (unlabelled (λ p. T.eq p seed) (ref_grid image.entry) (grid_of begun))
-        left top x y
-        → Spreading (λ p. T.eq p seed) (ref_grid image.entry) left top label (grid_of begun)
-        (grid_of (shaped labels.old shape)) (shape_width shape) count room.old row from to
-        → Spreading (λ p. T.eq p seed) (ref_grid image.entry) left top label (grid_of begun)
-        (grid_of (shaped labels.new shape)) (shape_width shape) (count + 1) room.new row from to }
-    ensures adds { AddsLabel label (grid_of (shaped labels.old shape))
-        (grid_of (shaped labels.new shape)) }
-    ensures run { ShowsAlong (grid_of (shaped labels.new shape)) label y x result }
+    requires ready { CanSpread search.now labels.old count room.old }
+    requires column { x < shape_width search.now.shape }
+    requires row { y < shape_height search.now.shape }
+    requires clear { (open_places search.now T.eq labels.old).pixel x y ≡ Some true }
+    ensures goes_on { (begun : List ℕ) (left top : ℕ) (looked : Run)
+        → IsConnected (open_places search.now T.eq begun) left top x y
+        → IsSpreading search.now T.eq left top begun labels.old count room.old looked
+        → IsSpreading search.now T.eq left top begun labels.new (count + 1) room.new looked }
+    ensures step { AddsRuns search.now labels.old count room.old labels.new (count + 1) room.new }
+    ensures run { ShowsAlong (label_grid search.now labels.new) search.now.label y x result }
     ensures after { x < result }
-    ensures within { result ≤ shape_width shape }
-    ensures fewer { places_with 0 (grid_of (shaped labels.new shape))
-        < places_with 0 (grid_of (shaped labels.old shape)) }
-    ensures places { ArePlaces (shape_width shape * shape_height shape) (count + 1) room.new }
-    ensures room { length room.new ≡ length room.old }
-    ensures outside { SameOutside (shaped labels.old shape) (shaped labels.new shape) }
-    ensures fits { Fits (shaped labels.new shape) }
+    ensures within { result ≤ shape_width search.now.shape }
 {
-    let start = run_start(image, labels, shape, seed, x, y);
-    let end = run_end(image, labels, shape, seed, x, y);
-    fill_run(labels, shape, label, start, end, y);
+    let from = run_start(search, labels, x, y);
+    let to = run_end(search, labels, x, y);
+    fill_run(labels, search.shape, search.label, Run { y, from, to });
     // (both sizes are below 2^32, so the number fits)
-    let _rows = shape.height();
-    room[count] = y * shape.width() + start;
-    end
+    let _rows = search.shape.height();
+    room[count] = y * search.shape.width() + from;
+    to
 }
 
-// Looks at the places of row `y` from one column up to another one: the run of each open one gets
-// the label. Returns how many runs are pending.
+// Looks at the places of a run: the run of each open one gets the label. Returns how many runs are
+// pending.
 fn look_along<T: Copy + PartialEq>(
-    image: ImgRef<'_, T>,
+    search: &Search<'_, T>,
     labels: &mut [u64],
-    shape: Shape,
     room: &mut [usize],
     count: usize,
-    seed: T,
-    label: u64,
-    from: usize,
-    to: usize,
-    y: usize,
+    run: Run,
 ) -> usize
-    requires labels { CanBeLabelled (ref_layout image) (shaped labels.old shape) }
-    requires some { 0 < label }
-    requires room { count + places_with 0 (grid_of (shaped labels.old shape)) ≤ length room.old }
-    requires places { ArePlaces (shape_width shape * shape_height shape) count room.old }
-    requires within { to ≤ shape_width shape }
-    ensures goes_on { SpreadsOn (λ p. T.eq p seed) (ref_grid image.entry) label (shape_width shape)
-        y from to (grid_of (shaped labels.old shape)) count room.old
-        (grid_of (shaped labels.new shape)) result room.new }
-    ensures looked { (u : ℕ) → from ≤ u → u < to
-        → (unlabelled (λ p. T.eq p seed) (ref_grid image.entry)
-        (grid_of (shaped labels.new shape))).pixel u y ≢ Some true }
-    ensures adds { AddsLabel label (grid_of (shaped labels.old shape))
-        (grid_of (shaped labels.new shape)) }
-    ensures fewer { result + places_with 0 (grid_of (shaped labels.new shape))
-        ≤ count + places_with 0 (grid_of (shaped labels.old shape)) }
-    ensures places { ArePlaces (shape_width shape * shape_height shape) result room.new }
-    ensures room { length room.new ≡ length room.old }
-    ensures outside { SameOutside (shaped labels.old shape) (shaped labels.new shape) }
-    ensures fits { Fits (shaped labels.new shape) }
+    requires ready { CanSpread search.now labels.old count room.old }
+    requires within { run.to ≤ shape_width search.now.shape }
+    ensures goes_on { SpreadsOn search.now T.eq run labels.old count room.old labels.new result
+        room.new }
+    ensures looked { (u : ℕ) → run.from ≤ u → u < run.to
+        → (open_places search.now T.eq labels.new).pixel u run.y ≢ Some true }
+    ensures step { AddsRuns search.now labels.old count room.old labels.new result room.new }
 {
     let mut count = count;
-    if y >= shape.height() {
+    if run.y >= search.shape.height() {
         return count;
     }
-    let mut x = from;
-    while x < to {
-        if is_open(image, labels, shape, seed, x, y) {
-            x = label_run(image, labels, shape, room, count, seed, label, x, y);
+    let mut x = run.from;
+    while x < run.to {
+        if is_open(search, labels, x, run.y) {
+            x = label_run(search, labels, room, count, x, run.y);
             count += 1;
         } else {
             x += 1;
@@ -235,84 +202,53 @@ fn look_along<T: Copy + PartialEq>(
 // Takes the last pending run, and looks at the places above and below it. Returns how many runs are
 // pending then.
 fn spread_run<T: Copy + PartialEq>(
-    image: ImgRef<'_, T>,
+    search: &Search<'_, T>,
     labels: &mut [u64],
-    shape: Shape,
     room: &mut [usize],
     count: usize,
-    seed: T,
-    label: u64,
 ) -> usize
-    requires labels { CanBeLabelled (ref_layout image) (shaped labels.old shape) }
-    requires some { 0 < label }
-    requires room { count + 1 + places_with 0 (grid_of (shaped labels.old shape))
-        ≤ length room.old }
-    requires places { ArePlaces (shape_width shape * shape_height shape) (count + 1) room.old }
-    ensures goes_on { (begun : Layout ℕ) (left top : ℕ)
-        → Spreading (λ p. T.eq p seed) (ref_grid image.entry) left top label (grid_of begun)
-        (grid_of (shaped labels.old shape)) (shape_width shape) (count + 1) room.old 0 0 0
-        → Spreading (λ p. T.eq p seed) (ref_grid image.entry) left top label (grid_of begun)
-        (grid_of (shaped labels.new shape)) (shape_width shape) result room.new 0 0 0 }
-    ensures adds { AddsLabel label (grid_of (shaped labels.old shape))
-        (grid_of (shaped labels.new shape)) }
-    ensures fewer { result + places_with 0 (grid_of (shaped labels.new shape))
-        ≤ count + places_with 0 (grid_of (shaped labels.old shape)) }
-    ensures places { ArePlaces (shape_width shape * shape_height shape) result room.new }
-    ensures room { length room.new ≡ length room.old }
-    ensures outside { SameOutside (shaped labels.old shape) (shaped labels.new shape) }
-    ensures fits { Fits (shaped labels.new shape) }
+    requires ready { CanSpread search.now labels.old (count + 1) room.old }
+    ensures goes_on { (begun : List ℕ) (left top : ℕ)
+        → IsSpreading search.now T.eq left top begun labels.old (count + 1) room.old no_run
+        → IsSpreading search.now T.eq left top begun labels.new result room.new no_run }
+    ensures step { AddsRuns search.now labels.old count room.old labels.new result room.new }
 {
     let number = room[count];
-    let width = shape.width();
-    let _height = shape.height();
-    let (x, y) = (number % width, number / width);
-    let end = label_end(labels, shape, label, x, y);
+    let width = search.shape.width();
+    let _height = search.shape.height();
+    let (from, y) = (number % width, number / width);
+    let to = label_end(labels, search.shape, search.label, from, y);
     let above = y.saturating_sub(1);
-    let count = look_along(
-        image, labels, shape, room, count, seed, label, x, end, above,
-    );
-    look_along(
-        image,
-        labels,
-        shape,
-        room,
-        count,
-        seed,
-        label,
-        x,
-        end,
-        y + 1,
-    )
+    let count = look_along(search, labels, room, count, Run { y: above, from, to });
+    look_along(search, labels, room, count, Run { y: y + 1, from, to })
 }
 
-// Gives a label to the region of a place that has none, where no place has this label.
+// Gives a label to the region of an open place, where no place has this label.
 fn label_region<T: Copy + PartialEq>(
-    image: ImgRef<'_, T>,
+    search: &Search<'_, T>,
     labels: &mut [u64],
-    shape: Shape,
     room: &mut [usize],
-    seed: T,
-    label: u64,
-    place: (usize, usize),
+    x: usize,
+    y: usize,
 )
-    requires labels { CanBeLabelled (ref_layout image) (shaped labels.old shape) }
-    requires some { 0 < label }
-    requires fresh { (u v : ℕ) → (grid_of (shaped labels.old shape)).pixel u v ≢ Some label }
-    requires room { shape_width shape * shape_height shape ≤ length room.old }
-    requires free { (grid_of (shaped labels.old shape)).pixel place.0 place.1 ≡ Some 0 }
-    requires shows { (ref_grid image).pixel place.0 place.1 ≡ Some seed }
-    requires passes { T.eq seed seed ≡ true }
-    ensures region { HasRegion (λ p. T.eq p seed) (ref_grid image.entry) place.0 place.1 label
-        (grid_of (shaped labels.old shape)) (grid_of (shaped labels.new shape)) }
+    requires labels { HasLabels search.now labels.old }
+    requires some { 0 < search.now.label }
+    requires fresh { (u v : ℕ)
+        → (label_grid search.now labels.old).pixel u v ≢ Some search.now.label }
+    requires room { shape_width search.now.shape * shape_height search.now.shape
+        ≤ length room.old }
+    requires clear { (open_places search.now T.eq labels.old).pixel x y ≡ Some true }
+    ensures region { HasRegion (λ p. T.eq p search.now.seed) (ref_grid search.now.image) x y
+        search.now.label (label_grid search.now labels.old) (label_grid search.now labels.new) }
     ensures room { length room.new ≡ length room.old }
-    ensures outside { SameOutside (shaped labels.old shape) (shaped labels.new shape) }
-    ensures fits { Fits (shaped labels.new shape) }
+    ensures outside { SameOutside (shaped labels.old search.now.shape)
+        (shaped labels.new search.now.shape) }
+    ensures fits { Fits (shaped labels.new search.now.shape) }
 {
-    let (x, y) = place;
-    label_run(image, labels, shape, room, 0, seed, label, x, y);
+    label_run(search, labels, room, 0, x, y);
     let mut count = 1;
     while count > 0 {
-        count = spread_run(image, labels, shape, room, count - 1, seed, label);
+        count = spread_run(search, labels, room, count - 1);
     }
 }
 
@@ -324,29 +260,34 @@ fn label_place<T: Copy + PartialEq>(
     shape: Shape,
     room: &mut [usize],
     regions: u64,
-    x: usize,
-    y: usize,
+    place: (usize, usize),
 ) -> u64
     requires labels { CanBeLabelled (ref_layout image) (shaped labels.old shape) }
     requires room { shape_width shape * shape_height shape ≤ length room.old }
-    requires column { x < width_of image }
-    requires row { y < height_of image }
+    requires column { place.0 < width_of image }
+    requires row { place.1 < height_of image }
     requires more { regions + 1 < 18446744073709551616 }
     requires tells { TellsApart T.eq }
     requires labelled { Labelled (ref_grid image) (grid_of (shaped labels.old shape)) regions }
-    ensures step { IsLabelStep (ref_grid image.entry) x y (grid_of (shaped labels.old shape))
-        regions (grid_of (shaped labels.new shape)) result }
+    ensures step { IsLabelStep (ref_grid image.entry) place.0 place.1
+        (grid_of (shaped labels.old shape)) regions (grid_of (shaped labels.new shape)) result }
     ensures least { regions ≤ result }
     ensures most { result ≤ regions + 1 }
     ensures room { length room.new ≡ length room.old }
     ensures outside { SameOutside (shaped labels.old shape) (shaped labels.new shape) }
     ensures fits { Fits (shaped labels.new shape) }
 {
+    let (x, y) = place;
     if at(labels, shape, x, y) != 0 {
         return regions;
     }
-    let seed = image[(x, y)];
-    label_region(image, labels, shape, room, seed, regions + 1, (x, y));
+    let search = Search {
+        image,
+        shape,
+        seed: image[(x, y)],
+        label: regions + 1,
+    };
+    label_region(&search, labels, room, x, y);
     regions + 1
 }
 
@@ -370,7 +311,7 @@ fn label_all<T: Copy + PartialEq>(
     let mut regions = 0u64;
     for y in 0..image.height() {
         for x in 0..image.width() {
-            regions = label_place(image, labels, shape, room, regions, x, y);
+            regions = label_place(image, labels, shape, room, regions, (x, y));
         }
     }
     regions

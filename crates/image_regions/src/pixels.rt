@@ -1,6 +1,6 @@
 //! One pixel of cells in a shape, read or written.
 
-ghost use Rattle.std.specs.Prelude.{◌≡◌, ◌<◌, Some};
+ghost use Rattle.std.specs.Prelude.{◌≡◌, ◌<◌, IfSome, Some};
 ghost use Rattle.imgref.specs.Words.{Fits, SameOutside, grid_of, patch, shape_height, shape_width, shaped, uniform};
 
 use imgref::{ImgRef, ImgRefMut, Shape};
@@ -10,6 +10,7 @@ use imgref::{ImgRef, ImgRefMut, Shape};
 pub(crate) fn get<T: Copy>(cells: &[T], shape: Shape, x: usize, y: usize) -> Option<T>
     requires fits { Fits (shaped cells.now shape) }
     ensures pixel { result ≡ (grid_of (shaped cells.now shape)).pixel x y }
+    ensures inside { IfSome result (λ _. (x < shape_width shape) × (y < shape_height shape)) }
 {
     ImgRef::from_parts(cells, shape).get(x, y)
 }

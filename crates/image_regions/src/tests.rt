@@ -53,37 +53,27 @@ const RING: [u8; 23] = [
     1, 1, 1, 0, 1, 1, 1, 0, 1, 0, 0, 1, 1, 1, 1, 1, 0, 1, 0, 0, 1, 0, 0,
 ];
 
+// The same after a fill of the ring with 7.
+const SEVENS: [u8; 23] = [
+    7, 7, 7, 0, 1, 1, 7, 0, 7, 0, 0, 1, 7, 7, 7, 7, 0, 1, 0, 0, 7, 0, 0,
+];
+
+// And after a fill of the zeros on its right with 9.
+const NINES: [u8; 23] = [
+    7, 7, 7, 9, 1, 1, 7, 0, 7, 9, 9, 1, 7, 7, 7, 7, 9, 1, 0, 0, 7, 9, 9,
+];
+
 #[test]
 fn a_fill_goes_to_what_is_connected(rt: HostRuntime) -> Result<(), Fail> {
     let mut image: ImgVec<u8> = Img::new_stride(RING.to_vec(rt.alloc())?, 5, 4, 6);
     assert!(rt; image.is_valid());
     flood_fill(rt.alloc(), &mut image, 2, 2, 7)?;
-    assert!(rt;
-        image.buf().as_slice()
-            == [
-                7u8, 7, 7, 0, 1, 1, 7, 0, 7, 0, 0, 1, 7, 7, 7, 7, 0, 1, 0, 0, 7, 0, 0
-            ]
-            .as_slice()
-    );
-    assert!(rt; image.is_valid());
+    assert!(rt; image.buf().as_slice() == SEVENS.as_slice() && image.is_valid());
     flood_fill(rt.alloc(), &mut image, 1, 1, 0)?;
     flood_fill(rt.alloc(), &mut image, 4, 0, 1)?;
-    assert!(rt;
-        image.buf().as_slice()
-            == [
-                7u8, 7, 7, 0, 1, 1, 7, 0, 7, 0, 0, 1, 7, 7, 7, 7, 0, 1, 0, 0, 7, 0, 0
-            ]
-            .as_slice()
-    );
-    assert!(rt; image.is_valid());
+    assert!(rt; image.buf().as_slice() == SEVENS.as_slice() && image.is_valid());
     flood_fill(rt.alloc(), &mut image, 4, 3, 9)?;
-    assert!(rt;
-        image.buf().as_slice()
-            == [
-                7u8, 7, 7, 9, 1, 1, 7, 0, 7, 9, 9, 1, 7, 7, 7, 7, 9, 1, 0, 0, 7, 9, 9
-            ]
-            .as_slice()
-    );
+    assert!(rt; image.buf().as_slice() == NINES.as_slice());
     Ok(())
 }
 

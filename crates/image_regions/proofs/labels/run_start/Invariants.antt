@@ -1,11 +1,9 @@
 use Rattle.std.proofs.Common.{◌≤◌, true}
-use Rattle.image_model.specs.Regions.{unlabelled}
-use Rattle.imgref.specs.Words.{grid_of, ref_grid, shaped}
-use Rattle.image_regions.specs.Runs.{ShowsAlong}
+use Rattle.image_regions.specs.Runs.{ShowsAlong, open_places}
 use Rattle.image_regions.proofs.labels.run_start.Given as goal
 
 abbrev pub invariant-loop-start : goal.invariant-loop-start
-invariant-loop-start g l = (l.start ≤ l.fn.x) × ShowsAlong (unlabelled (λ p. g.T.PartialEq.eq p l.seed) (ref_grid l.image) (grid_of (shaped l.labels l.shape))) true l.y l.start l.fn.x
+invariant-loop-start g l = (l.start ≤ l.fn.x) × ShowsAlong (open_places l.search g.T.PartialEq.eq l.labels) true l.y l.start l.fn.x
 
 abbrev pub decreases-loop-start : goal.decreases-loop-start
 decreases-loop-start g l = l.start
