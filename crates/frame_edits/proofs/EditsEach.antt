@@ -13,7 +13,8 @@ use Rattle.frame_edits.specs.Lists.{AreEdits, Adds, NeedsMemory, framing_after, 
 use Rattle.frame_lists.specs.Lines.{line_words}
 use Rattle.frame_edits.specs.Edits.{edits, Edits as Plain}
 use Rattle.text_model.specs.Reading.{◌>>=◌}
-use Rattle.frame_edits.specs.Words.{Named, edit_at, with_edit}
+use Rattle.std.specs.Prelude.{IfSome}
+use Rattle.frame_edits.specs.Words.{Named, edit_at, framing_at, named, ranged_at, with_edit}
 
 -- what is known of edits before and after one was taken from words
 abbrev pub Taken : List (List ℕ) → Edits → Edits → ℕ → Type 0
@@ -48,16 +49,24 @@ pub none_at : (words : List (List ℕ)) (old : Edits) (es : List Named) → (old
 none_at words old [] none some are = let empty : length words ≡ 0 = ap length are in absurd (omega (arith, empty, some))
 none_at words old (e ∷ es) none some are = let bad : Some e ≡ None = sym are.1 ∙ none are.0 in absurd cc
 
--- an edit was taken, so there was a place for it
-pub needs_taken : (words : List (List ℕ)) (old new : Edits) (n : ℕ) → Taken words old new n → old.framing ≡ None → NeedsMemory old.framing words
-needs_taken words old new n taken first =
+-- an edit that isn't of the size has a step
+has_step : (f : Option (Framing × ℕ)) (s : Option (Edit × ℕ)) (e : Named) → named f s ≡ Some e → e.framing ≡ None → e.steps ≢ []
+has_step (Some f) s e is none = absurd (let size : Some f.0 ≡ None = ap (λ (n : Named). n.framing) (some_is (record { steps = []; framing = Some f.0; count = f.1 }) e is) ∙ none in cc)
+has_step None (Some s) e is none = subst (λ (n : Named). n.steps ≢ []) (some_is (record { steps = s.0 ∷ []; framing = None; count = s.1 }) e is) (λ same. absurd cc)
+has_step None None e is none = absurd cc
+
+-- an edit was taken that isn't of the size, so there was a place for it
+pub needs_taken : (words : List (List ℕ)) (old new : Edits) (n : ℕ) → Taken words old new n → old.framing ≡ None → new.framing ≡ None → NeedsMemory old.framing words
+needs_taken words old new n taken first none =
     let m = map_some (edit_at words) (with_edit old.steps.items) (new.steps.items, (new.framing, n)) taken in
-    (first, λ none. let both : Some m.0 ≡ None = sym m.1 ∙ none in absurd cc)
+    let framing : m.0.framing ≡ new.framing = ap (λ (t : List Edit × (Option Framing × ℕ)). t.1.0) m.2 in
+    let step : m.0.steps ≢ [] = has_step (framing_at words) (ranged_at words) m.0 m.1 (framing ∙ none) in
+    (first, (λ nothing. let both : Some m.0 ≡ None = sym m.1 ∙ nothing in absurd cc), subst (λ (o : Option Named). IfSome o (λ e. e.steps ≢ [])) (sym m.1) step)
 
 -- words need it from the first of them on
-pub first_taken : (words : List (List ℕ)) (at : ℕ) (framing before : Option Framing) → (at ≡ 0 → framing ≡ before) → (0 < at → NeedsMemory before words) → NeedsMemory framing (drop at words) → NeedsMemory before words
-first_taken words zero framing before same so_far here = (sym (same refl) ∙ here.0, here.1)
-first_taken words (suc at) framing before same so_far here = so_far (omega arith)
+pub first_taken : (words : List (List ℕ)) (at : ℕ) (framing before : Option Framing) → (at ≡ 0 → framing ≡ before) → (0 < at → framing ≡ None → NeedsMemory before words) → NeedsMemory framing (drop at words) → NeedsMemory before words
+first_taken words zero framing before same so_far here = (sym (same refl) ∙ here.0, here.1, here.2)
+first_taken words (suc at) framing before same so_far here = so_far (omega arith) here.0
 
 -- ---- lines that need memory
 
@@ -95,6 +104,14 @@ one_found words old found n is first all = grind (arith, same_eqb)
 
 pub one_there : (words : List (List ℕ)) (old : Plain) (found : Found) (n : ℕ) → edit_at words ≡ Some (named_of found n) → old.framing ≡ None → n ≡ length words → with_one old words ≢ None
 one_there words old found n is first all = λ none. let both : Some (edits (old.steps ++ steps_of found) (framing_of found)) ≡ None = sym (one_found words old found n is first all) ∙ none in absurd cc
+
+-- more steps are others
+grown : (xs ys : List Edit) → ys ≢ [] → xs ++ ys ≢ xs
+grown [] ys some same = some same
+grown (x ∷ xs) ys some same = grown xs ys some (ap (drop 1) same)
+
+pub one_grows : (words : List (List ℕ)) (old : Plain) (found : Found) (n : ℕ) → edit_at words ≡ Some (named_of found n) → old.framing ≡ None → n ≡ length words → steps_of found ≢ [] → IfSome (with_one old words) (λ new. new.steps ≢ old.steps)
+one_grows words old found n is first all some = subst (λ (o : Option Plain). IfSome o (λ new. new.steps ≢ old.steps)) (sym (one_found words old found n is first all)) (grown old.steps (steps_of found) some)
 
 -- it has fewer
 pub fewer_found : (words : List (List ℕ)) (old : Plain) (found : Found) (n : ℕ) → edit_at words ≡ Some (named_of found n) → (n ≡ length words → ⊥) → with_one old words ≡ None

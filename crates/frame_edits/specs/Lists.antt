@@ -1,5 +1,5 @@
 -- Which edits a list of words is, and which the lines of a file are.
-use Rattle.std.specs.Prelude.{◌≡◌, ◌≢◌, ◌==◌, ℕ, List, [], ◌∷◌, ◌++◌, Option, Some, None, drop, length, if◌then◌else◌}
+use Rattle.std.specs.Prelude.{◌≡◌, ◌≢◌, ◌==◌, ℕ, List, [], ◌∷◌, ◌++◌, Option, Some, None, IfSome, drop, length, if◌then◌else◌}
 use Rattle.std.specs.List.{flat_map}
 use Rattle.std.specs.Option.{is_none, option_map}
 use Rattle.text_model.specs.Reading.{◌>>=◌, is_nil}
@@ -33,9 +33,9 @@ pub record Adds (words : List (List ℕ)) (old new : Edits) : Type 0 where
 abbrev pub AddsNone : List (List ℕ) → Edits → Type 0
 AddsNone words old = (edits : List Named) → AreEdits edits old.framing words → ⊥
 
--- the first of some words are an edit, and there is no crop or pad yet: a place for it needs memory
+-- the first of some words are an edit with a step, and there is no crop or pad yet: a place for the step needs memory
 abbrev pub NeedsMemory : Option Framing → List (List ℕ) → Type 0
-NeedsMemory framing words = (framing ≡ None) × (edit_at words ≢ None)
+NeedsMemory framing words = (framing ≡ None) × (edit_at words ≢ None) × IfSome (edit_at words) (λ e. e.steps ≢ [])
 
 -- what was found at the front of words, as an edit of so many words
 abbrev pub steps_of : Found → List Edit
@@ -71,12 +71,13 @@ abbrev pub with_lines : Plain → List (List ℕ) → Option Plain
 with_lines old [] = Some old
 with_lines old (line ∷ lines) = with_line old line >>= λ new. with_lines new lines
 
--- a line is an edit, which may come after these
+-- a line is an edit with a step, which may come after these
 pub record IsEditLine (old : Plain) (line : List ℕ) : Type 0 where
   pub word : line_words line ≢ []
   pub edit : with_line old line ≢ None
+  pub step : IfSome (with_line old line) (λ new. new.steps ≢ old.steps)
 
--- one of some lines is an edit, and so are those before it: a place for it needs memory
+-- one of some lines is an edit with a step, and those before it are edits: a place for the step needs memory
 pub record NeedsPlace (old : Plain) (lines : List (List ℕ)) : Type 0 where
   pub before : List (List ℕ)
   pub line : List ℕ

@@ -64,7 +64,8 @@ impl Edits {
     ///
     /// # Errors
     ///
-    /// `NoEdit` where there is no edit at the front, or it would come after a crop or a pad.
+    /// `NoEdit` where there is no edit at the front, or it would come after a crop or a pad. `Memory`
+    /// only where the edit is of pixels.
     pub fn take(&mut self, words: &[&[u8]]) -> Result<usize, WordsFault>
         ensures taken { IfOk result (λ n. option_map (with_edit self.old.steps.items) (edit_at
             (map (λ w. w.now) words.now)) ≡ Some (self.new.steps.items, (self.new.framing, n))) }
@@ -164,7 +165,7 @@ impl Edits {
     }
 
     // Adds the one edit that all of the words are.
-    #[tactic(auto, using(crate::proofs::EditsEach::one_found, crate::proofs::EditsEach::one_there, crate::proofs::EditsEach::fewer_found, crate::proofs::EditsEach::none_taken))]
+    #[tactic(auto, using(crate::proofs::EditsEach::one_found, crate::proofs::EditsEach::one_there, crate::proofs::EditsEach::one_grows, crate::proofs::EditsEach::fewer_found, crate::proofs::EditsEach::none_taken))]
     fn take_one(&mut self, words: &[&[u8]]) -> Result<(), WordsFault>
         ensures taken { OnOk result
             (with_one (plain self.old) (map (λ w. w.now) words.now) ≡ Some (plain self.new)) }
@@ -172,6 +173,9 @@ impl Edits {
             → with_one (plain self.old) (map (λ w. w.now) words.now) ≡ None) }
         ensures memory { IfErr result (λ e. e ≡ WordsFault.Memory
             → with_one (plain self.old) (map (λ w. w.now) words.now) ≢ None) }
+        ensures step { IfErr result (λ e. e ≡ WordsFault.Memory
+            → IfSome (with_one (plain self.old) (map (λ w. w.now) words.now))
+            (λ new. new.steps ≢ (plain self.old).steps)) }
         ensures same { IfErr result (λ _. plain self.new ≡ plain self.old) }
     {
         match self.next_edit(words) {
@@ -222,7 +226,7 @@ impl Edits {
     /// # Errors
     ///
     /// `NoEdit` where a line isn't one edit, or would come after a crop or a pad. `Memory` only where
-    /// a line is an edit, and those before it are. On any fault the edits stay as they were.
+    /// a line is an edit of pixels, and those before it are edits. On any fault the edits stay as they were.
     pub fn take_lines(&mut self, _alloc: Global, text: &[u8]) -> Result<(), WordsFault>
         ensures taken { OnOk result
             (with_lines (plain self.old) (parts_of 10 text.now) ≡ Some (plain self.new)) }

@@ -1,6 +1,6 @@
 //! The changes of each frame of a video, or of a picture.
 
-ghost use Rattle.std.specs.Prelude.{◌≡◌, ◌≤◌, ◌⊎◌, ◌^◌, true, false, Some, None, IfOk, IfErr, length, map, take};
+ghost use Rattle.std.specs.Prelude.{◌≡◌, ◌≤◌, ◌⊎◌, ◌^◌, true, false, Some, None, IfOk, IfErr, IsOk, length, map, take};
 ghost use Rattle.image_planes.specs.Changes.{as_usize, jobs_len};
 ghost use Rattle.image_planes.specs.Planes.{job_of};
 ghost use Rattle.image_planes.specs.Scratch.{scratch_len, room_len, HasRoom, KeepsRoom};
@@ -220,6 +220,7 @@ impl Plan {
     pub fn scratch(&self, alloc: Global) -> Result<Scratch, AllocError>
         ensures room { IfOk result (HasRoom (recipe_of self.now).jobs) }
         ensures bytes { IfOk result (λ s. room_len s ≡ scratch_len (recipe_of self.now).jobs) }
+        ensures succeeds { scratch_len (recipe_of self.now).jobs ≡ 0 → IsOk result }
     {
         Scratch::new(alloc, &self.planes)
     }

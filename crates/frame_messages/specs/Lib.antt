@@ -1,3 +1,4 @@
 pub mod Bare
 pub mod Fault
 pub mod Lines
+pub mod Unreached

@@ -1,6 +1,10 @@
 //! Edits that did nothing: ranges that the input didn't reach, ranges of times that have no frame, and
 //! covers that cover nothing.
 
+ghost use Rattle.std.specs.Prelude.{◌≡◌};
+ghost use Rattle.std.specs.List.{list_any};
+ghost use Rattle.frame_messages.specs.Unreached.{is_unreached, unreached};
+
 use crate::notes::Notes;
 use crate::places::{Place, Texts, say_place};
 use frame_edits::Edit;
@@ -17,19 +21,35 @@ pub struct Noted<'a> {
     pub strict: bool,
 }
 
+// The frames of an edit, where an input of so many ends before them. All frames are those that there
+// are.
+fn unreached(edit: &Edit, count: u64, rate: Option<Rate>) -> Option<(u64, u64)>
+    ensures { result ≡ unreached count rate edit.now }
+{
+    let (first, end) = edit.range.frames(rate)?;
+    if first < count || (first == 0 && end == u64::MAX) {
+        return None;
+    }
+    Some((first, end))
+}
+
 impl Noted<'_> {
     /// Prints each range of frames that the input, which had so many, didn't reach. Returns whether
     /// there is one.
-    pub fn say_unreached(self, count: u64, rate: Option<Rate>) -> bool {
+    #[tactic(auto, using(crate::proofs::AnyNoted::one_passed, crate::proofs::AnyNoted::one_noted, crate::proofs::AnyNoted::all_noted))]
+    pub fn say_unreached(self, count: u64, rate: Option<Rate>) -> bool
+        ensures unreached { result
+            ≡ list_any (λ e. is_unreached count rate e) self.entry.steps.now }
+    {
         let rt = self.rt;
         let mut notes = Notes::new(rt, self.strict, "fault range");
         // The numbers only grow, so all lines are read once.
         let mut places = self.texts.places(rt.alloc());
         for number in 0..self.steps.len() {
-            let Some((first, end)) = self.steps[number].range.frames(rate) else {
+            let Some((first, end)) = unreached(&self.steps[number], count, rate) else {
                 continue;
             };
-            if first < count || (first == 0 && end == u64::MAX) || !notes.begin() {
+            if !notes.begin() {
                 continue;
             }
             let place = places.find(number);

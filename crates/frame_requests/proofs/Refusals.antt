@@ -1,10 +1,10 @@
 -- Why words and lines are refused.
-use Rattle.std.proofs.Common.{◌≡◌, ◌≢◌, ℕ, List, [], ◌++◌, Some, None, refl, ap, subst, ◌∙◌}
+use Rattle.std.proofs.Common.{◌≡◌, ℕ, List, [], ◌++◌, Some, None, refl, ap, subst, ◌∙◌}
 use Rattle.std.specs.List.{flat_map}
 use Rattle.text_model.specs.Parts.{parts_of}
 use Rattle.frame_edits.specs.Edits.{Edits, edits}
-use Rattle.frame_edits.specs.Lists.{Adds, AreEdits, NeedsPlace, framing_after, plain, with_lines}
-use Rattle.frame_edits.specs.Words.{Named, edit_at}
+use Rattle.frame_edits.specs.Lists.{Adds, AreEdits, NeedsMemory, NeedsPlace, framing_after, plain, with_lines}
+use Rattle.frame_edits.specs.Words.{Named}
 use Rattle.frame_edits.specs.declared.lists.Edits.{Edits as Made}
 use Rattle.frame_lists.specs.declared.fault.WordsFault.{WordsFault}
 use Rattle.frame_lists.specs.declared.fault.WordsFault.TheVariants.{NoEdit, Memory as NoMemory}
@@ -13,7 +13,7 @@ use Rattle.frame_requests.specs.declared.words.Refusal.{Refusal}
 use Rattle.frame_requests.specs.declared.words.Refusal.TheVariants.{Empty, NoFrame}
 
 -- a fault of words is why they are refused
-pub no_words : (words : List (List ℕ)) (fault : WordsFault) → (fault ≡ NoEdit → (named : List Named) → AreEdits named None words → ⊥) → (fault ≡ NoMemory → edit_at words ≢ None) → RefusesWords words (refusal_of fault)
+pub no_words : (words : List (List ℕ)) (fault : WordsFault) → (fault ≡ NoEdit → (named : List Named) → AreEdits named None words → ⊥) → (fault ≡ NoMemory → NeedsMemory None words) → RefusesWords words (refusal_of fault)
 no_words words NoEdit none memory = none refl
 no_words words NoMemory none memory = memory refl
 

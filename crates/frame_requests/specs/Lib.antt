@@ -2,5 +2,6 @@ pub mod Asked
 pub mod Boxes
 pub mod Late
 pub mod Options
+pub mod Seen
 pub mod Uncovered
 pub mod Words

@@ -168,6 +168,15 @@ with_item o i = record {
 abbrev pub lacks_boxes : Options → Bool
 lacks_boxes o = is_none o.boxes && (is_some o.hold || (is_some o.margin || (is_some o.with || o.require_box)))
 
+-- the first option that is for the boxes of a list
+abbrev pub list_option : Options → Option (List ℕ)
+list_option o =
+    if is_some o.hold then Some (codes "--hold")
+    else if is_some o.margin then Some (codes "--margin")
+    else if is_some o.with then Some (codes "--with")
+    else if o.require_box then Some (codes "--require-box")
+    else None
+
 -- ---- all options
 
 -- what there is without an option: 1 GiB for all buffers, and words after the program's name

@@ -1,8 +1,8 @@
 //! The options before the edits.
 
-ghost use Rattle.std.specs.Prelude.{◌≡◌, ◌<◌, ◌≤◌, ◌+◌, ◌^◌, IfErr, IfOk, IfSome, length, map, slice_index, ◌==◌};
+ghost use Rattle.std.specs.Prelude.{◌≡◌, ◌<◌, ◌≤◌, ◌+◌, ◌^◌, IfErr, IfOk, IfSome, Some, length, map, slice_index, ◌==◌};
 ghost use Rattle.std.specs.Option.{is_some};
-ghost use Rattle.frame_requests.specs.Options.{AreMisread, AreOptions, alone_of, followed_at, followed_of, is_name, item_at, lacks_boxes, misread_word, no_options, way_at, with_item, with_word};
+ghost use Rattle.frame_requests.specs.Options.{AreMisread, AreOptions, alone_of, followed_at, followed_of, is_name, item_at, lacks_boxes, list_option, misread_word, no_options, way_at, with_item, with_word};
 
 use frame_edits::{Paint, read_way};
 use frame_heads::value_named;
@@ -270,7 +270,8 @@ impl Options {
 
     /// The first option that is for the boxes of a list, where there is no list.
     pub fn lacks_boxes(&self) -> Option<&'static str>
-        ensures { is_some result ≡ lacks_boxes self.now }
+        ensures lacks { is_some result ≡ lacks_boxes self.now }
+        ensures first { IfSome result (λ option. list_option self.now ≡ Some option.now) }
     {
         if self.boxes.is_some() {
             None

@@ -1,6 +1,6 @@
 //! What was found of the input of a run.
 
-ghost use Rattle.std.specs.Prelude.{◌≡◌, ◌≤◌, ℕ, None, IfSome};
+ghost use Rattle.std.specs.Prelude.{◌≡◌, ◌≤◌, ℕ, None, Some, IfSome};
 
 use frame_edits::{
     Edit, picture_covers_nothing, picture_window, video_covers_nothing, video_window,
@@ -19,7 +19,7 @@ pub enum Shape {
 }
 
 impl Shape {
-    ghost use Rattle.frame_requests.specs.Uncovered.{rate_in, is_empty_in};
+    ghost use Rattle.frame_requests.specs.Uncovered.{KeepsMarginIn, drawn_in, is_empty_in, rate_in, size_in};
 
     // Whether an edit is a cover or a box that has no pixel of such a frame.
     fn is_left_by(self, edit: Edit) -> bool
@@ -32,7 +32,9 @@ impl Shape {
     }
 
     /// The width and the height of such frames.
-    pub fn size(self) -> (usize, usize) {
+    pub fn size(self) -> (usize, usize)
+        ensures { result ≡ size_in self }
+    {
         match self {
             Shape::Video(format, _) => (format.width, format.height),
             Shape::Picture(picture) => (picture.width, picture.height),
@@ -40,7 +42,10 @@ impl Shape {
     }
 
     /// The rectangle that an edit changes in such a frame.
-    pub fn window(self, edit: Edit) -> Window {
+    pub fn window(self, edit: Edit) -> Window
+        ensures drawn { result ≡ drawn_in self edit }
+        ensures margin { KeepsMarginIn self edit result }
+    {
         match self {
             Shape::Video(format, _) => video_window(format, edit),
             Shape::Picture(picture) => picture_window(picture, edit),
@@ -107,7 +112,7 @@ pub struct Uncovered {
     pub height: usize,
 }
 
-/// What was read last, for messages: no clause is about it.
+/// What was read last, for messages. Of covers that cover nothing no clause says which were found.
 #[derive(Drop)]
 pub struct Seen {
     shape: Option<Shape>,
@@ -124,8 +129,14 @@ pub struct Seen {
 }
 
 impl Seen {
+    // These name the type itself.
+    ghost use Rattle.frame_requests.specs.Seen.{last_seen, rate_seen, shape_seen};
+
     /// No line and no head.
-    pub fn nothing(alloc: Global) -> Seen {
+    pub fn nothing(alloc: Global) -> Seen
+        ensures shape { shape_seen result ≡ None }
+        ensures last { last_seen result ≡ 0 }
+    {
         Seen {
             shape: None,
             first: 0,
@@ -137,7 +148,10 @@ impl Seen {
     }
 
     /// The same, and each shape is kept for a report.
-    pub fn for_report(alloc: Global) -> Seen {
+    pub fn for_report(alloc: Global) -> Seen
+        ensures shape { shape_seen result ≡ None }
+        ensures last { last_seen result ≡ 0 }
+    {
         Seen {
             shapes: Some(Vec::new(alloc)),
             ..Seen::nothing(alloc)
@@ -153,7 +167,9 @@ impl Seen {
     }
 
     // Keeps a shape for a report.
-    fn keep_shape(&mut self, number: u64, shape: Shape) {
+    fn keep_shape(&mut self, number: u64, shape: Shape)
+        ensures same_last { last_seen self.new ≡ last_seen self.old }
+    {
         let is_kept = match &mut self.shapes {
             Some(shapes) => shapes.push((number, shape)).is_ok(),
             None => true,
@@ -164,17 +180,23 @@ impl Seen {
     }
 
     /// The line or the head that was read last.
-    pub fn shape(&self) -> Option<Shape> {
+    pub fn shape(&self) -> Option<Shape>
+        ensures { result ≡ shape_seen self.now }
+    {
         self.shape
     }
 
     /// The number of the picture whose head was read last. Of a video it is 0.
-    pub fn last(&self) -> u64 {
+    pub fn last(&self) -> u64
+        ensures { result ≡ last_seen self.now }
+    {
         self.last
     }
 
     /// The rate of a video, where its line names one.
-    pub fn rate(&self) -> Option<Rate> {
+    pub fn rate(&self) -> Option<Rate>
+        ensures { result ≡ rate_seen self.now }
+    {
         self.shape?.rate()
     }
 
@@ -189,7 +211,9 @@ impl Seen {
 
     // Keeps that the edit of this number, of so many, covers nothing there. Where there is no memory
     // for that, it is only known of the first.
-    fn keep(&mut self, number: usize, len: usize, uncovered: Uncovered) {
+    fn keep(&mut self, number: usize, len: usize, uncovered: Uncovered)
+        ensures same_last { last_seen self.new ≡ last_seen self.old }
+    {
         if self.found.is_none() {
             self.found = Some((number, uncovered));
         }
@@ -203,22 +227,32 @@ impl Seen {
         }
     }
 
-    /// The line of a video was read, or the head of the picture of this number.
-    pub fn see(&mut self, number: u64, shape: Shape, steps: &[Edit]) {
-        self.last = number;
-        if self.shape == Some(shape) {
+    // The frames of the last shape end before this one: keeps which edits cover nothing in them.
+    fn end_stretch(&mut self, number: u64, steps: &[Edit])
+        ensures same_last { last_seen self.new ≡ last_seen self.old }
+    {
+        let Some(stretch) = self.stretch(number) else {
             return;
-        }
-        if let Some(stretch) = self.stretch(number) {
-            for at in 0..steps.len() {
-                if let Some(uncovered) = stretch.found(&steps[at]) {
-                    self.keep(at, steps.len(), uncovered);
-                }
+        };
+        for at in 0..steps.len() {
+            if let Some(uncovered) = stretch.found(&steps[at]) {
+                self.keep(at, steps.len(), uncovered);
             }
         }
-        self.keep_shape(number, shape);
+    }
+
+    /// The line of a video was read, or the head of the picture of this number.
+    pub fn see(&mut self, number: u64, shape: Shape, steps: &[Edit])
+        ensures shape { shape_seen self.new ≡ Some shape }
+        ensures last { last_seen self.new ≡ number }
+    {
+        self.last = number;
+        if self.shape != Some(shape) {
+            self.end_stretch(number, steps);
+            self.keep_shape(number, shape);
+            self.first = number;
+        }
         self.shape = Some(shape);
-        self.first = number;
     }
 
     /// Where so many frames were read: the first of them in which the edit of this number is a cover

@@ -1,6 +1,6 @@
 //! The room that blurs need besides the planes.
 
-ghost use Rattle.std.specs.Prelude.{◌≡◌, ◌≤◌, length, map, vec_capacity, IfOk};
+ghost use Rattle.std.specs.Prelude.{◌≡◌, ◌≤◌, length, map, vec_capacity, IfOk, IsOk};
 ghost use Rattle.image_planes.specs.Changes.{as_usize};
 ghost use Rattle.image_planes.specs.Planes.{job_of};
 ghost use Rattle.image_planes.specs.Scratch.{copy_room, sums_room, scratch_len, HasRoom};
@@ -56,6 +56,7 @@ impl Scratch {
     pub fn new(alloc: Global, planes: &[Plane]) -> Result<Scratch, AllocError>
         ensures room { IfOk result (HasRoom (map job_of planes.now)) }
         ensures bytes { IfOk result (λ s. room_len s ≡ scratch_len (map job_of planes.now)) }
+        ensures succeeds { scratch_len (map job_of planes.now) ≡ 0 → IsOk result }
     {
         let (copy_room, sums_room) = (copy_room(planes), sums_room(planes));
         Ok(Scratch {

@@ -10,3 +10,4 @@ pub mod OneOutput
 pub mod Outcomes
 pub mod Pieces
 pub mod Rounds
+pub mod Starts

@@ -105,9 +105,9 @@ not_planned edit n picture head is (Some bytes) (Some rest) w read (Memory k) te
 not_planned edit n picture head is _ r2 w read _ tells = absurd tells
 
 -- out of memory where the head of another picture was read
-pub new_head : (picture : Picture) (head : List ℕ) → IsHead head picture → (before : Option Picture) (old new : Option (List ℕ)) → Consumes old new head → (e : RunFault) → NeedsMemory before picture e → PictureStops {T = Kept} (Err e) before old new
-new_head picture head is before old new read (Memory n) needs = record { head = head; picture = picture; is = is; read = read; other = needs }
-new_head picture head is before old new read _ needs = tt
+pub new_head : (edit : Edits) (picture : Picture) (head : List ℕ) → IsHead head picture → (before : Option Picture) (old new : Option (List ℕ)) → Consumes old new head → (e : RunFault) → NeedsMemory edit before picture e → PictureStops {T = Kept} (Err e) edit before old new
+new_head edit picture head is before old new read (Memory n) needs = record { head = head; picture = picture; is = is; read = read; other = needs.0; starts = needs.1 }
+new_head edit picture head is before old new read _ needs = tt
 
 -- ---- pictures
 
@@ -168,7 +168,7 @@ other_last None ps none picture other = subst (λ l. IfSome (last_piece l) (λ l
 other_last (Some p) ps last picture other = subst (λ l. IfSome l (λ last. IsHead last.head picture → ⊥)) (sym last.1) (λ is. other (some_is p picture (sym last.2.named ∙ is.named)))
 
 -- out of memory at the head of the next picture
-pub next_head : (edit : Edits) (before : Option Picture) (n : ℕ) (r0 r1 r2 w0 w1 : Option (List ℕ)) → PassedLast edit before n r0 r1 w0 w1 → (e : RunFault) → ((k : ℕ) → e ≡ Memory k → k ≡ n) → PictureStops {T = Kept} (Err e) before r1 r2 → PicturesStop {T = ℕ} (Err e) edit r0 r2
+pub next_head : (edit : Edits) (before : Option Picture) (n : ℕ) (r0 r1 r2 w0 w1 : Option (List ℕ)) → PassedLast edit before n r0 r1 w0 w1 → (e : RunFault) → ((k : ℕ) → e ≡ Memory k → k ≡ n) → PictureStops {T = Kept} (Err e) edit before r1 r2 → PicturesStop {T = ℕ} (Err e) edit r0 r2
 next_head edit before n r0 r1 r2 w0 w1 p (Memory k) count stop = record {
   pieces = p.passed.pieces;
   are = p.passed.are;
@@ -178,6 +178,7 @@ next_head edit before n r0 r1 r2 w0 w1 p (Memory k) count stop = record {
   is = stop.is;
   read = Consumes-trans r0 r1 r2 _ _ p.passed.read stop.read;
   other = other_last before p.passed.pieces p.last stop.picture stop.other;
+  starts = stop.starts;
 }
 next_head edit before n r0 r1 r2 w0 w1 p _ count stop = tt
 
@@ -195,5 +196,5 @@ read_behind (Some all) (Some rest) new bytes letter read = subst (λ (l : List �
 
 -- what is said of memory after the letter is so from the first byte on
 pub behind_letter_stops : (r : Result ℕ RunFault) (edit : Edits) (old left new : Option (List ℕ)) → Consumes old left (80 ∷ []) → PicturesStop r edit (behind_letter left) new → Stops r edit old new
-behind_letter_stops (Err (Memory n)) edit old left new letter stop = inr (record { pieces = stop.pieces; are = stop.are; count_is = stop.count_is; head = stop.head; picture = stop.picture; is = stop.is; read = read_behind old left new (pieces_text stop.pieces ++ stop.head) letter stop.read; other = stop.other })
+behind_letter_stops (Err (Memory n)) edit old left new letter stop = inr (record { pieces = stop.pieces; are = stop.are; count_is = stop.count_is; head = stop.head; picture = stop.picture; is = stop.is; read = read_behind old left new (pieces_text stop.pieces ++ stop.head) letter stop.read; other = stop.other; starts = stop.starts })
 behind_letter_stops _ edit old left new letter stop = tt

@@ -4,9 +4,12 @@ use Rattle.std.specs.List.{AllByRecursion}
 use Rattle.std.specs.Option.{option_map}
 use Rattle.std.specs.Io.KnownBytes.{Consumes}
 use Rattle.frame_edits.specs.Edits.{Edits}
+use Rattle.frame_edits.specs.Covers.{one_pixel, video_unit}
 use Rattle.frame_heads.specs.Format.{format_of}
+use Rattle.frame_heads.specs.Rates.{rate_of}
 use Rattle.frame_formats.specs.Planned.{recipe_of, plan_room, plan_other_room}
 use Rattle.frame_formats.specs.Recipe.{picture_recipe}
+use Rattle.frame_formats.specs.Steps.{StartsWell, step_in}
 use Rattle.image_planes.specs.Scratch.{HasRoom}
 use Rattle.frame_heads.specs.declared.header.Format.{Format}
 use Rattle.frame_heads.specs.declared.picture.Picture.{Picture}
@@ -40,35 +43,43 @@ HasNoPlan none number (Frame n) = ⊥
 HasNoPlan none number Input = ⊥
 HasNoPlan none number Output = ⊥
 
--- out of memory only where no plan is kept for this picture
-abbrev pub NeedsMemory : Option Picture → Picture → RunFault → Type 0
-NeedsMemory before picture Outside = Unit {0}
-NeedsMemory before picture (Memory n) = IfSome before (λ p. p ≢ picture)
-NeedsMemory before picture Header = Unit {0}
-NeedsMemory before picture (Frame n) = Unit {0}
-NeedsMemory before picture Input = Unit {0}
-NeedsMemory before picture Output = Unit {0}
+-- there is no edit, or the first is one of a video with this line, or of this picture
+abbrev pub StartsVideo : Edits → List ℕ → Format → Type 0
+StartsVideo edit line format = StartsWell (step_in (video_unit format) (rate_of line) format.width format.height) edit.steps
+
+abbrev pub StartsPicture : Edits → Picture → Type 0
+StartsPicture edit picture = StartsWell (step_in one_pixel None picture.width picture.height) edit.steps
+
+-- out of memory only where no plan is kept for this picture, and the first edit is one of it
+abbrev pub NeedsMemory : Edits → Option Picture → Picture → RunFault → Type 0
+NeedsMemory edit before picture Outside = Unit {0}
+NeedsMemory edit before picture (Memory n) = IfSome before (λ p. p ≢ picture) × StartsPicture edit picture
+NeedsMemory edit before picture Header = Unit {0}
+NeedsMemory edit before picture (Frame n) = Unit {0}
+NeedsMemory edit before picture Input = Unit {0}
+NeedsMemory edit before picture Output = Unit {0}
 
 -- ---- what was read when there was no memory
 
--- exactly one head was read, and no plan is kept for its picture
-pub record NewHeadRead (before : Option Picture) (old new : Option (List ℕ)) : Type 0 where
+-- exactly one head was read, and no plan is kept for its picture, of which the first edit is one
+pub record NewHeadRead (edit : Edits) (before : Option Picture) (old new : Option (List ℕ)) : Type 0 where
   pub head : List ℕ
   pub picture : Picture
   pub is : IsHead head picture
   pub read : Consumes old new head
   pub other : IfSome before (λ p. p ≢ picture)
+  pub starts : StartsPicture edit picture
 
-abbrev pub PictureStops : {T : Type 0} → Result T RunFault → Option Picture → Option (List ℕ) → Option (List ℕ) → Type 0
-PictureStops (Err (Memory n)) before old new = NewHeadRead before old new
-PictureStops _ before old new = Unit {0}
+abbrev pub PictureStops : {T : Type 0} → Result T RunFault → Edits → Option Picture → Option (List ℕ) → Option (List ℕ) → Type 0
+PictureStops (Err (Memory n)) edit before old new = NewHeadRead edit before old new
+PictureStops _ edit before old new = Unit {0}
 
 abbrev pub last_piece : List Piece → Option Piece
 last_piece [] = None
 last_piece (p ∷ []) = Some p
 last_piece (p ∷ (q ∷ ps)) = last_piece (q ∷ ps)
 
--- exactly so many pictures and one head more were read; it is none of the size and kind of the last of them
+-- exactly so many pictures and one head more were read; it is none of the size and kind of the last of them, and the first edit is one of its picture
 pub record NextHeadRead (edit : Edits) (count : ℕ) (old new : Option (List ℕ)) : Type 0 where
   pub pieces : List Piece
   pub are : AllByRecursion (IsPiece (PictureHead edit)) pieces
@@ -78,30 +89,32 @@ pub record NextHeadRead (edit : Edits) (count : ℕ) (old new : Option (List ℕ
   pub is : IsHead head picture
   pub read : Consumes old new (pieces_text pieces ++ head)
   pub other : IfSome (last_piece pieces) (λ last. IsHead last.head picture → ⊥)
+  pub starts : StartsPicture edit picture
 
--- exactly the line of a video was read, and no frame
-pub record VideoLineRead (count : ℕ) (old new : Option (List ℕ)) : Type 0 where
+-- exactly the line of a video was read, and no frame; the first edit is one of the video
+pub record VideoLineRead (edit : Edits) (count : ℕ) (old new : Option (List ℕ)) : Type 0 where
   pub none : count ≡ 0
   pub line : List ℕ
   pub format : Format
   pub named : format_of line ≡ Some format
   pub read : Consumes old new (line ++ 10 ∷ [])
+  pub starts : StartsVideo edit line format
 
 -- out of memory after so many pictures: nothing was read of the cells of the next, or of any frame
 abbrev pub PicturesStop : {T : Type 0} → Result T RunFault → Edits → Option (List ℕ) → Option (List ℕ) → Type 0
 PicturesStop (Err (Memory n)) edit old new = NextHeadRead edit n old new
 PicturesStop _ edit old new = Unit {0}
 
-abbrev pub VideoStops : {T : Type 0} → Result T RunFault → Option (List ℕ) → Option (List ℕ) → Type 0
-VideoStops (Err (Memory n)) old new = VideoLineRead n old new
-VideoStops _ old new = Unit {0}
+abbrev pub VideoStops : {T : Type 0} → Result T RunFault → Edits → Option (List ℕ) → Option (List ℕ) → Type 0
+VideoStops (Err (Memory n)) edit old new = VideoLineRead edit n old new
+VideoStops _ edit old new = Unit {0}
 
 -- the same for each input with this front
-abbrev pub VideoStopsAfter : {T : Type 0} → Result T RunFault → List ℕ → Option (List ℕ) → Option (List ℕ) → Type 0
-VideoStopsAfter result front left new = (input : Option (List ℕ)) → Consumes input left front → VideoStops result input new
+abbrev pub VideoStopsAfter : {T : Type 0} → Result T RunFault → Edits → List ℕ → Option (List ℕ) → Option (List ℕ) → Type 0
+VideoStopsAfter result edit front left new = (input : Option (List ℕ)) → Consumes input left front → VideoStops result edit input new
 
 abbrev pub Stops : {T : Type 0} → Result T RunFault → Edits → Option (List ℕ) → Option (List ℕ) → Type 0
-Stops (Err (Memory n)) edit old new = VideoLineRead n old new ⊎ NextHeadRead edit n old new
+Stops (Err (Memory n)) edit old new = VideoLineRead edit n old new ⊎ NextHeadRead edit n old new
 Stops _ edit old new = Unit {0}
 
 -- ---- the loop over pictures

@@ -103,6 +103,7 @@ fn is_same(a: Picture, b: Picture) -> bool
 }
 
 // A new plan for the picture of this number, with room for it.
+#[tactic(auto, using(crate::proofs::Starts::plan_needs, crate::proofs::Starts::picture_starts))]
 fn make_plan(
     request: Request<'_>,
     number: u64,
@@ -117,6 +118,7 @@ fn make_plan(
         + scratch_len (recipe_of k.plan).jobs ≤ request.entry.limit) }
     ensures fault { IfErr result
         (HasNoPlan (picture_recipe (edits_of request.entry) picture ≡ None) number) }
+    ensures stops { IfErr result (NeedsMemory (edits_of request.entry) None picture) }
 {
     let alloc = request.alloc;
     let plan = match Plan::for_picture(alloc, picture, request.steps, request.framing) {
@@ -146,6 +148,7 @@ fn make_plan(
 
 // The plan for the picture of this number: that of the picture before it where both have the same
 // size and kind, and else a new one. Then the room of the one before is given back first.
+#[tactic(auto, using(crate::proofs::Starts::needs_first, crate::proofs::Starts::needs_other))]
 fn plan_for(
     request: Request<'_>,
     number: u64,
@@ -161,7 +164,8 @@ fn plan_for(
         (IsKept (edits_of request.entry) (vec_capacity cells.new) (vec_capacity other.new)) }
     ensures fault { IfErr result
         (HasNoPlan (picture_recipe (edits_of request.entry) picture ≡ None) number) }
-    ensures stops { IfErr result (NeedsMemory (kept_picture kept) picture) }
+    ensures stops { IfErr result
+        (NeedsMemory (edits_of request.entry) (kept_picture kept) picture) }
 {
     if let Some(before) = kept {
         if is_same(before.picture, picture) {
@@ -192,7 +196,7 @@ fn pass_picture<R: Read, W: Write>(
         (W.contents (device_of writer.old)) (W.contents (device_of writer.new)) }
     ensures kept { IfOk result
         (IsKept (edits_of request.entry) (vec_capacity cells.new) (vec_capacity other.new)) }
-    ensures stops { PictureStops result (kept_picture kept)
+    ensures stops { PictureStops result (edits_of request.entry) (kept_picture kept)
         (behind_letter (R.remaining (device_of reader.old)))
         (R.remaining (device_of reader.new)) }
     ensures counts { Counts result (failures_of reader.old) (failures_of reader.new)

@@ -1,9 +1,11 @@
 //! The program on any reader and writer: a video or pictures in, the same out, edited.
 
-ghost use Rattle.std.specs.Prelude.{◌≡◌, ◌≢◌, ◌<◌, ◌+◌, ◌++◌, ◌∷◌, [], All, length, false};
+ghost use Rattle.std.specs.Prelude.{◌≡◌, ◌≢◌, ◌<◌, ◌+◌, ◌++◌, ◌∷◌, ◌≤◌, [], All, IfErr, IfOk, length, vec_capacity, false};
 ghost use Rattle.devices.specs.Device.{device_of, failures_of};
 ghost use Rattle.imgref_frames.specs.Fault.{CanCount, Counts, reader_failures, writer_failures};
 ghost use Rattle.frame_edits.specs.Edits.{edits};
+ghost use Rattle.frame_formats.specs.Planned.{recipe_of, plan_room, plan_other_room};
+ghost use Rattle.image_planes.specs.Scratch.{HasRoom, room_len};
 ghost use Rattle.imgref_frames.specs.Alike.{Hides, OneOutput};
 ghost use Rattle.imgref_frames.specs.Kept.{Stops, VideoStopsAfter};
 ghost use Rattle.imgref_frames.specs.Request.{edits_of};
@@ -18,11 +20,48 @@ use frame_formats::{Plan, recipes_hide};
 use frame_heads::{heads_end_themselves, read_format, read_rate};
 use frame_messages::RunFault;
 use frame_requests::{Seen, Shape};
+use image_planes::Scratch;
 use std::alloc::Global;
 use std::io::{Read, Write};
 
 // How many bytes the line of a video or of a frame may have, its line feed among them.
 const LONGEST: usize = 256;
+
+// The buffers for the frames of a video, and the room for its blurs.
+#[derive(Drop)]
+struct Buffers {
+    cells: Vec<u8>,
+    other: Vec<u8>,
+    scratch: Scratch,
+}
+
+// The buffers that a plan needs, which have at most `limit` bytes together.
+fn make_buffers(request: Request<'_>, plan: &Plan) -> Result<Buffers, RunFault>
+    ensures room { IfOk result (λ b. plan_room plan.now ≤ vec_capacity b.cells) }
+    ensures other_room { IfOk result (λ b. plan_other_room plan.now ≤ vec_capacity b.other) }
+    ensures scratch { IfOk result (λ b. HasRoom (recipe_of plan.now).jobs b.scratch) }
+    ensures limit { IfOk result (λ b. vec_capacity b.cells + vec_capacity b.other
+        + room_len b.scratch ≤ request.entry.limit) }
+    ensures memory { IfErr result (λ fault. fault ≡ RunFault.Memory 0) }
+{
+    if is_over(request.limit, plan) {
+        return Err(RunFault::Memory(0));
+    }
+    let Ok(cells) = Vec::with_capacity(request.alloc, plan.room()) else {
+        return Err(RunFault::Memory(0));
+    };
+    let Ok(other) = Vec::with_capacity(request.alloc, plan.other_room()) else {
+        return Err(RunFault::Memory(0));
+    };
+    let Ok(scratch) = plan.scratch(request.alloc) else {
+        return Err(RunFault::Memory(0));
+    };
+    Ok(Buffers {
+        cells,
+        other,
+        scratch,
+    })
+}
 
 // Writes the video's line, and then the frames after it.
 fn run_video<R: Read, W: Write>(
@@ -39,8 +78,8 @@ fn run_video<R: Read, W: Write>(
     ensures follows { Follows result (edits_of request.entry) (line.now ++ 10 ∷ [])
         (R.remaining (device_of reader.old)) (W.contents (device_of writer.old))
         (W.contents (device_of writer.new)) }
-    ensures stops { VideoStopsAfter result (line.now ++ 10 ∷ []) (R.remaining (device_of reader.old))
-        (R.remaining (device_of reader.new)) }
+    ensures stops { VideoStopsAfter result (edits_of request.entry) (line.now ++ 10 ∷ [])
+        (R.remaining (device_of reader.old)) (R.remaining (device_of reader.new)) }
     ensures counts { Counts result (failures_of reader.old) (failures_of reader.new)
         (failures_of writer.old) (failures_of writer.new) }
 {
@@ -53,17 +92,9 @@ fn run_video<R: Read, W: Write>(
         Ok(plan) => plan,
         Err(fault) => return Err(fault_of_plan(0, fault)),
     };
-    if is_over(request.limit, &plan) {
-        return Err(RunFault::Memory(0));
-    }
-    let Ok(mut cells) = Vec::with_capacity(alloc, plan.room()) else {
-        return Err(RunFault::Memory(0));
-    };
-    let Ok(mut other) = Vec::with_capacity(alloc, plan.other_room()) else {
-        return Err(RunFault::Memory(0));
-    };
-    let Ok(mut scratch) = plan.scratch(alloc) else {
-        return Err(RunFault::Memory(0));
+    let mut buffers = match make_buffers(request, &plan) {
+        Ok(buffers) => buffers,
+        Err(fault) => return Err(fault),
     };
     if write_all(writer, plan.head()).is_err() {
         return Err(RunFault::Output);
@@ -74,9 +105,9 @@ fn run_video<R: Read, W: Write>(
         writer,
         &plan,
         &mut frame_line,
-        &mut cells,
-        &mut other,
-        &mut scratch,
+        &mut buffers.cells,
+        &mut buffers.other,
+        &mut buffers.scratch,
     )
 }
 
@@ -93,8 +124,8 @@ fn carry_video<R: Read, W: Write>(
     ensures follows { Follows result (edits_of request.entry) (first ∷ [])
         (R.remaining (device_of reader.old)) (W.contents (device_of writer.old))
         (W.contents (device_of writer.new)) }
-    ensures stops { VideoStopsAfter result (first ∷ []) (R.remaining (device_of reader.old))
-        (R.remaining (device_of reader.new)) }
+    ensures stops { VideoStopsAfter result (edits_of request.entry) (first ∷ [])
+        (R.remaining (device_of reader.old)) (R.remaining (device_of reader.new)) }
     ensures counts { Counts result (failures_of reader.old) (failures_of reader.new)
         (failures_of writer.old) (failures_of writer.new) }
 {
@@ -133,7 +164,8 @@ pub fn run<R: Read, W: Write>(
         (W.contents (device_of writer.old)) (W.contents (device_of writer.new)) }
 
     // Out of memory comes only where exactly the line of a video was read, or exactly the pictures
-    // before and one head more, of another size or kind than the last of them.
+    // before and one head more, of another size or kind than the last of them. The first edit is one
+    // of that video or picture.
     ensures stops { Stops result (edits steps.now framing) (R.remaining (device_of reader.old))
         (R.remaining (device_of reader.new)) }
 

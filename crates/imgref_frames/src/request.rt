@@ -1,6 +1,6 @@
 //! The request for a run, and why a plan for it is refused.
 
-ghost use Rattle.std.specs.Prelude.{◌≡◌, ◌+◌, ◌≤◌, None, false, Some};
+ghost use Rattle.std.specs.Prelude.{◌≡◌, ◌+◌, ◌≤◌, ◌<◌, None, false, true, Some};
 ghost use Rattle.frame_formats.specs.Planned.{recipe_of, plan_room, plan_other_room};
 ghost use Rattle.image_planes.specs.Changes.{as_usize};
 ghost use Rattle.image_planes.specs.Scratch.{scratch_len};
@@ -32,8 +32,10 @@ fn bytes_for(plan: &Plan) -> Option<usize>
 
 /// Whether the buffers for a plan have more bytes than allowed.
 pub(crate) fn is_over(limit: usize, plan: &Plan) -> bool
-    ensures { result ≡ false → plan_room plan.now + plan_other_room plan.now
+    ensures within { result ≡ false → plan_room plan.now + plan_other_room plan.now
         + scratch_len (recipe_of plan.now).jobs ≤ limit }
+    ensures over { result ≡ true → limit < plan_room plan.now + plan_other_room plan.now
+        + scratch_len (recipe_of plan.now).jobs }
 {
     match bytes_for(plan) {
         Some(bytes) => bytes > limit,

@@ -27,9 +27,9 @@ returns-in_err-made-clause-passes g c =
 pub returns-in_err-made-clause-stops : goal.returns-in_err-made-clause-stops
 returns-in_err-made-clause-stops g c =
     let found = rw c.in-Some.is at c.in_ok-picture.ensures.head in
-    handed_on (λ r. PictureStops r (kept_picture c.args.kept) (behind_letter (g.R.Read.remaining (device_of c.args.reader.now))) (g.R.Read.remaining (device_of c.read_head.new.reader)))
+    handed_on (λ r. PictureStops r (edits_of c.args.request) (kept_picture c.args.kept) (behind_letter (g.R.Read.remaining (device_of c.args.reader.now))) (g.R.Read.remaining (device_of c.read_head.new.reader)))
     c.from_residual-in_err-made.result c.in_err-made.field-0.0 c.from_residual-in_err-made.ensures
-    (new_head c.in-Some.picture found.0 found.1 _ (behind_letter (g.R.Read.remaining (device_of c.args.reader.now))) (g.R.Read.remaining (device_of c.read_head.new.reader)) found.2 c.in_err-made.field-0.0 c.in_err-made.ensures.stops)
+    (new_head (edits_of c.args.request) c.in-Some.picture found.0 found.1 _ (behind_letter (g.R.Read.remaining (device_of c.args.reader.now))) (g.R.Read.remaining (device_of c.read_head.new.reader)) found.2 c.in_err-made.field-0.0 c.in_err-made.ensures.stops)
 
 -- the cells were passed on
 pub returns-clause-passes : goal.returns-clause-passes

@@ -6,12 +6,14 @@ use Rattle.devices.specs.Device.{device_of}
 use Rattle.frame_formats.specs.Planned.{recipe_of}
 use Rattle.imgref_frames.specs.Request.{edits_of}
 use Rattle.frame_formats.specs.Recipe.{Recipe}
+use Rattle.imgref_frames.specs.Kept.{VideoStops}
 use Rattle.imgref_frames.specs.Program.{Writes}
 use Rattle.frame_messages.specs.declared.fault.RunFault.{RunFault}
 use Rattle.std.proofs.Common.{Err}
 use Rattle.frame_formats.specs.declared.plans.PlanFault.TheVariants.{Memory as NoMemory}
 use Rattle.imgref_frames.proofs.Outcomes.{at_ok, at_err}
 use Rattle.imgref_frames.proofs.Carrying.{begun_line, no_format, not_planned, frames_written}
+use Rattle.imgref_frames.proofs.Starts.{line_read, plan_stops, video_starts}
 use Rattle.imgref_frames.proofs.program.run_video.Goals as goal
 
 pub returns-in_default-clause-follows : goal.returns-in_default-clause-follows
@@ -21,22 +23,10 @@ pub returns-in-Err-clause-follows : goal.returns-in-Err-clause-follows
 returns-in-Err-clause-follows g c input read = subst (λ (e : RunFault). Writes (Err e) (edits_of c.args.request) input (g.W.Write.contents (device_of c.args.writer.now)) (g.W.Write.contents (device_of c.args.writer.now))) (sym c.fault_of_plan.ensures)
     (not_planned c.in-Err.fault (edits_of c.args.request) c.args.line.now c.in-Some.format (g.R.Read.remaining (device_of c.args.reader.now)) (g.W.Write.contents (device_of c.args.writer.now)) c.requires.one_line c.requires.short c.requires.kind (sym c.in-Some.ensures) c.in-Err.ensures.fault input read)
 
--- more bytes than the limit, no memory for a frame, none for one of another size, and none for blurs
-pub returns-then-is_over-clause-follows : goal.returns-then-is_over-clause-follows
-returns-then-is_over-clause-follows g c input read =
-    not_planned NoMemory (edits_of c.args.request) c.args.line.now c.in-Some.format (g.R.Read.remaining (device_of c.args.reader.now)) (g.W.Write.contents (device_of c.args.writer.now)) c.requires.one_line c.requires.short c.requires.kind (sym c.in-Some.ensures) tt input read
-
-pub returns-in_default-with_capacity-clause-follows : goal.returns-in_default-with_capacity-clause-follows
-returns-in_default-with_capacity-clause-follows g c input read =
-    not_planned NoMemory (edits_of c.args.request) c.args.line.now c.in-Some.format (g.R.Read.remaining (device_of c.args.reader.now)) (g.W.Write.contents (device_of c.args.writer.now)) c.requires.one_line c.requires.short c.requires.kind (sym c.in-Some.ensures) tt input read
-
-pub returns-in_default-with_capacity-2-clause-follows : goal.returns-in_default-with_capacity-2-clause-follows
-returns-in_default-with_capacity-2-clause-follows g c input read =
-    not_planned NoMemory (edits_of c.args.request) c.args.line.now c.in-Some.format (g.R.Read.remaining (device_of c.args.reader.now)) (g.W.Write.contents (device_of c.args.writer.now)) c.requires.one_line c.requires.short c.requires.kind (sym c.in-Some.ensures) tt input read
-
-pub returns-in_default-scratch-clause-follows : goal.returns-in_default-scratch-clause-follows
-returns-in_default-scratch-clause-follows g c input read =
-    not_planned NoMemory (edits_of c.args.request) c.args.line.now c.in-Some.format (g.R.Read.remaining (device_of c.args.reader.now)) (g.W.Write.contents (device_of c.args.writer.now)) c.requires.one_line c.requires.short c.requires.kind (sym c.in-Some.ensures) tt input read
+-- more bytes than the limit, or no memory
+pub returns-in-Err-make_buffers-clause-follows : goal.returns-in-Err-make_buffers-clause-follows
+returns-in-Err-make_buffers-clause-follows g c input read = subst (λ (e : RunFault). Writes (Err e) (edits_of c.args.request) input (g.W.Write.contents (device_of c.args.writer.now)) (g.W.Write.contents (device_of c.args.writer.now))) (sym c.in-Err-make_buffers.ensures.memory)
+    (not_planned NoMemory (edits_of c.args.request) c.args.line.now c.in-Some.format (g.R.Read.remaining (device_of c.args.reader.now)) (g.W.Write.contents (device_of c.args.writer.now)) c.requires.one_line c.requires.short c.requires.kind (sym c.in-Some.ensures) tt input read)
 
 pub returns-then-is_err-clause-follows : goal.returns-then-is_err-clause-follows
 returns-then-is_err-clause-follows g c input read =
@@ -56,3 +46,12 @@ returns-clause-follows g c input read =
     let left = g.R.Read.remaining (device_of c.args.reader.now) in
     let wrote : Appends old held c.head.result.now = at_ok c.write_all.result (sym c.is_err.ensures.value ∙ c.if-is_err.false) c.write_all.ensures.whole in
     frames_written (edits_of c.args.request) line recipe (c.requires.one_line, c.requires.short, c.in-Ok.ensures.plan) c.requires.kind left old held (subst (Appends old held) c.head.ensures wrote) c.pass_frames.result input (g.R.Read.remaining (device_of c.pass_frames.new.reader)) (g.W.Write.contents (device_of c.pass_frames.new.writer)) read c.pass_frames.ensures.passes
+
+-- out of memory, where the first edit is one of the video
+pub returns-in-Err-clause-stops : goal.returns-in-Err-clause-stops
+returns-in-Err-clause-stops g c input read = subst (λ (e : RunFault). VideoStops {T = ℕ} (Err e) (edits_of c.args.request) input (g.R.Read.remaining (device_of c.args.reader.now))) (sym c.fault_of_plan.ensures)
+    (plan_stops (edits_of c.args.request) c.args.line.now c.in-Some.format c.in-Err.fault (sym c.in-Some.ensures) c.in-Err.ensures.memory input (g.R.Read.remaining (device_of c.args.reader.now)) read)
+
+pub returns-in-Err-make_buffers-clause-stops : goal.returns-in-Err-make_buffers-clause-stops
+returns-in-Err-make_buffers-clause-stops g c input read = subst (λ (e : RunFault). VideoStops {T = ℕ} (Err e) (edits_of c.args.request) input (g.R.Read.remaining (device_of c.args.reader.now))) (sym c.in-Err-make_buffers.ensures.memory)
+    (line_read (edits_of c.args.request) c.args.line.now c.in-Some.format (sym c.in-Some.ensures) (video_starts (edits_of c.args.request) c.args.line.now c.in-Some.format (recipe_of c.in-Ok.plan) (sym c.in-Some.ensures) c.in-Ok.ensures.plan) input (g.R.Read.remaining (device_of c.args.reader.now)) read)

@@ -1,4 +1,4 @@
-use Rattle.std.proofs.Common.{◌≡◌, ◌-◌, ◌≤◌, ◌<◌, List, length, map, drop}
+use Rattle.std.proofs.Common.{◌≡◌, ◌-◌, ◌≤◌, ◌<◌, List, length, map, drop, None}
 use Rattle.frame_edits.specs.Lists.{AreEdits, Adds, NeedsMemory, plain}
 use Rattle.frame_edits.specs.Words.{Named}
 use Rattle.frame_edits.specs.declared.lists.Edits.{Edits}
@@ -11,7 +11,7 @@ invariant-loop-at l = record {
   front : Begins (plain l.initial.self) (plain l.self);
   within : l.at ≤ length l.words;
   same : l.at ≡ 0 → l.self.framing ≡ l.initial.self.framing;
-  first : 0 < l.at → NeedsMemory l.initial.self.framing (map (λ w. w.now) l.words);
+  first : 0 < l.at → l.self.framing ≡ None → NeedsMemory l.initial.self.framing (map (λ w. w.now) l.words);
   more : (new : Edits) → Adds (drop l.at (map (λ w. w.now) l.words)) l.self new → Adds (map (λ w. w.now) l.words) l.initial.self new;
   less : (edits : List Named) → AreEdits edits l.initial.self.framing (map (λ w. w.now) l.words) → (rest : List Named) × AreEdits rest l.self.framing (drop l.at (map (λ w. w.now) l.words));
 }
