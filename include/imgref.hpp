@@ -360,8 +360,7 @@ public:
     // rows up to its own. Only for bytes.
     void integral_into(view<std::uint64_t> areas) const {
         static_assert(std::is_same_v<value_type, std::uint8_t>, "only bytes are summed");
-        if (areas.width_ != width_ || areas.height_ != height_) throw refused(IMGREF_SIZES_DIFFER);
-        if (areas.shares_bytes(pixels_, len_)) throw std::invalid_argument("the images share memory");
+        needs_beside(areas);
         detail::done(imgref_u8_integral(cells(), len_, width_, height_, stride_, areas.written(), areas.len_, areas.stride_));
     }
 
@@ -376,8 +375,7 @@ public:
     // regions is returned. The labels begin at 1. Two places have one label exactly if they are
     // connected, as in flood_fill. Allocates a number for each place.
     std::size_t components_into(view<std::uint64_t> labels) const {
-        if (labels.width_ != width_ || labels.height_ != height_) throw refused(IMGREF_SIZES_DIFFER);
-        if (labels.shares_bytes(pixels_, len_)) throw std::invalid_argument("the images share memory");
+        needs_beside(labels);
         const auto room = room_of_all();
         std::uint64_t regions = 0;
         detail::done(calls::components(cells(), len_, width_, height_, stride_, labels.written(), labels.len_, labels.stride_, room.get(), width_ * height_, &regions));
@@ -486,15 +484,15 @@ private:
     // A number for each place, and one more, since no pointer may be null.
     std::unique_ptr<std::size_t[]> room_of_all() const { return std::unique_ptr<std::size_t[]>(new std::size_t[width_ * height_ + 1]); }
 
-    bool shares(const view<const value_type> &other) const noexcept {
-        std::less<const value_type *> before;
+    template <class U> bool shares(const view<U> &other) const noexcept {
+        std::less<const void *> before;
         return len_ && other.len_ && before(pixels_, other.pixels_ + other.len_) && before(other.pixels_, pixels_ + len_);
     }
 
-    // The same of pixels of another type.
-    template <class U> bool shares_bytes(const U *pixels, std::size_t len) const noexcept {
-        std::less<const void *> before;
-        return len_ && len && before(pixels_, pixels + len) && before(pixels, pixels_ + len_);
+    // Refuses a target for a number of each pixel that has another size, or shares memory with this image.
+    void needs_beside(const view<std::uint64_t> &numbers) const {
+        if (numbers.width_ != width_ || numbers.height_ != height_) throw refused(IMGREF_SIZES_DIFFER);
+        if (shares(numbers)) throw std::invalid_argument("the images share memory");
     }
 
     static cell bits(const value_type &pixel) noexcept {

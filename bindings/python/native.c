@@ -434,7 +434,6 @@ static imgref_rect window_of(const size_t *n) { return rect(n[0], n[1], n[2], n[
 /* The columns and the rows, in pixels. */
 #define SIZE(OF) (OF)->width / (OF)->step, (OF)->height
 #define CORNERS(N) (N)[0], (N)[1], (N)[2], (N)[3]
-#define ALL(OF) ALL_OF(OF)
 /* (a window with more than 2^64 pixels is refused) */
 #define IN(N) ((N)[2] * (N)[3])
 
@@ -639,13 +638,18 @@ CALL(call_equalize) {
     return done_in(&i, status, NULL);
 }
 
+/* Whether an image can take a number of eight bytes for each cell of another one, whose pixels are single cells. */
+static bool takes_numbers(const image *numbers, const image *of) {
+    return of->step == 1 && numbers->size == 8 && numbers->width == of->width && numbers->height == of->height && !images_overlap(of, numbers);
+}
+
 /* The sums go to an image of the same size, of numbers of eight bytes. */
 CALL(call_integral) {
     (void)module;
     Cells *it = first_in(given, count, 2), *areas = it ? cells_in(given[1]) : NULL;
     if (!areas || !is_written(areas)) return NULL;
     const image i = it->shown, o = areas->shown;
-    if (i.size != 1 || i.step != 1 || o.size != 8 || o.width != i.width || o.height != i.height || images_overlap(&i, &o)) return PyErr_Format(PyExc_TypeError, "no sums of these pixels");
+    if (i.size != 1 || !takes_numbers(&o, &i)) return PyErr_Format(PyExc_TypeError, "no sums of these pixels");
     UNLOCKED(ALL(&i), image_integral(&i, &o))
     return done_in(&i, status, NULL);
 }
@@ -692,7 +696,7 @@ CALL(call_components) {
     Cells *it = first_in(given, count, 2), *labels = it ? cells_in(given[1]) : NULL;
     if (!labels || !is_written(labels)) return NULL;
     const image i = it->shown, o = labels->shown;
-    if (i.step != 1 || o.size != 8 || o.width != i.width || o.height != i.height || images_overlap(&i, &o)) return PyErr_Format(PyExc_TypeError, "no labels of these pixels");
+    if (!takes_numbers(&o, &i)) return PyErr_Format(PyExc_TypeError, "no labels of these pixels");
     if (!(room = room_of(&i))) return NULL;
     UNLOCKED(ALL(&i), image_components(&i, &o, room, &regions))
     free(room);

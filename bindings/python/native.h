@@ -177,14 +177,16 @@ static imgref_status image_integral(const image *i, const image *areas) {
     return imgref_u8_integral(LAYOUT(uint8_t, i), CELLS(uint64_t, areas), areas->len, areas->stride);
 }
 
+/* How many cells an image has. */
+#define ALL(OF) ((OF)->width * (OF)->height)
+
 /* A pixel is one cell, and the room has a number for each: the caller tests it. */
-#define FLOOD_FILL(NAME, TYPE) imgref_##NAME##_flood_fill(LAYOUT(TYPE, i), x, y, (TYPE)bits, room, ALL_OF(i))
-#define ALL_OF(OF) ((OF)->width * (OF)->height)
+#define FLOOD_FILL(NAME, TYPE) imgref_##NAME##_flood_fill(LAYOUT(TYPE, i), x, y, (TYPE)bits, room, ALL(i))
 static imgref_status image_flood_fill(const image *i, size_t x, size_t y, uint64_t bits, size_t *room) { BY_SIZE(FLOOD_FILL) }
 
 /* The same, and the labels are numbers of eight bytes in an image of the same size that shares no memory with the other. */
 #define COMPONENTS(NAME, TYPE)                                                                                               \
-    imgref_##NAME##_components(LAYOUT(TYPE, i), CELLS(uint64_t, labels), labels->len, labels->stride, room, ALL_OF(i), count)
+    imgref_##NAME##_components(LAYOUT(TYPE, i), CELLS(uint64_t, labels), labels->len, labels->stride, room, ALL(i), count)
 static imgref_status image_components(const image *i, const image *labels, size_t *room, uint64_t *count) { BY_SIZE(COMPONENTS) }
 
 #define BOUNDING_BOX(NAME, TYPE) imgref_##NAME##_bounding_box(LAYOUT(TYPE, i), (TYPE)bits, around)

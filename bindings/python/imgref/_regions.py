@@ -70,7 +70,7 @@ def components(image: Image | Buffer) -> tuple[int, Image]:
     >>> count, [labels[0, x] for x in range(4)]
     (3, [1, 1, 2, 3])
     """
-    it = _of_cells(image if isinstance(image, Image) else image_of(image))
+    it = _of_cells(_shown(image))
     labels = room_of(cell_of("Q", 8), 1, it.width, it.height)
     return _native.components(it, labels), labels
 
@@ -82,9 +82,14 @@ def bounding_box(image: Image | Buffer, value: Pixel) -> Window | None:
     >>> bounding_box(Image(bytes([0, 9, 0, 9]), 2, 2), 9)
     Window(left=1, top=0, width=1, height=2)
     """
-    it = _of_cells(image if isinstance(image, Image) else image_of(image))
+    it = _of_cells(_shown(image))
     around = Window(*_native.bounding_box(it, it._pixels.encode(value)))
     return around if around.width else None
+
+
+def _shown(image: Image | Buffer) -> Image:
+    """The image, or one over a buffer that is only read."""
+    return image if isinstance(image, Image) else image_of(image)
 
 
 def _of_cells(image: Image) -> Image:
@@ -96,7 +101,7 @@ def _of_cells(image: Image) -> Image:
 
 def _of_numbers(image: Image | Buffer, codes: str, why: str) -> Image:
     """The image, or one over a buffer, whose pixels are one number of such a format."""
-    it = image if isinstance(image, Image) else image_of(image)
+    it = _shown(image)
     if it._pixels.channels != 1 or it._pixels.cell.code not in codes:
         raise TypeError(f"{why}, and pixels are {it._pixels!r}")
     return it
