@@ -18,7 +18,6 @@ files isn't run again by `gate`, and a line says so.
 """
 import contextlib
 import dataclasses
-import hashlib
 import os
 import pathlib
 import re
@@ -30,7 +29,8 @@ import threading
 import time
 
 from checking import ONE_BUILD, ROOT, crates, says
-from processes import end_on_signals, started, workers
+from packing import sum_of
+from processes import end_on_signals, run_to_end, started, workers
 
 # The checks. Those in `built` run programs, and those in `proofs` go over cached proofs.
 CHECKS = ROOT / ".ci/checks"
@@ -167,14 +167,12 @@ def cached_checks(without=()):
 
 def sum_of_files():
     """The sum of all files that git has or would take, and of the kit's version. Nothing where git doesn't list them."""
-    listed = subprocess.run(["git", "-C", ROOT, "ls-files", "-z", "--cached", "--others", "--exclude-standard"], capture_output=True)
+    listed = run_to_end(["git", "-C", ROOT, "ls-files", "-z", "--cached", "--others", "--exclude-standard"])
     if listed.returncode:
         return None
-    total = hashlib.sha256(subprocess.run(["rt", "version"], capture_output=True).stdout)
-    for name in sorted({*listed.stdout.split(b"\0")} - {b""}):
-        path = ROOT / os.fsdecode(name)
-        total.update(name + b"\0" + (hashlib.sha256(path.read_bytes()).digest() if path.is_file() else b"-"))
-    return total.hexdigest()
+    paths = {name: ROOT / name for name in sorted({*listed.stdout.split("\0")} - {""})}
+    sums = (f"{sum_of(at.read_bytes()) if at.is_file() else '-'}  {name}\n" for name, at in paths.items())
+    return sum_of("".join([run_to_end(["rt", "version"]).stdout, *sums]).encode())
 
 
 def not_tested(*folders):
