@@ -1,3 +1,4 @@
 pub mod AnyNoted
 pub mod BareFrames
 pub mod LateNotes
+pub mod UncoveredNotes

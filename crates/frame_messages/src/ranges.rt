@@ -1,9 +1,11 @@
 //! Edits that did nothing: ranges that the input didn't reach, ranges of times that have no frame, and
 //! covers that cover nothing.
 
-ghost use Rattle.std.specs.Prelude.{◌≡◌};
+ghost use Rattle.std.specs.Prelude.{◌≡◌, ◌≤◌, ℕ, List, true, false};
 ghost use Rattle.std.specs.List.{list_any};
 ghost use Rattle.frame_messages.specs.Unreached.{is_unreached, unreached};
+ghost use Rattle.frame_requests.specs.Seen.{IsAnyUncovered, Sees, last_seen};
+ghost use Rattle.frame_requests.specs.declared.seen.Shape.{Shape};
 
 use crate::notes::Notes;
 use crate::places::{Place, Texts, say_place};
@@ -65,7 +67,14 @@ impl Noted<'_> {
     }
 
     /// Prints each cover that covers nothing in a frame of so many, and returns whether there is one.
-    pub fn say_uncovered(self, seen: &Seen, count: u64) -> bool {
+    pub fn say_uncovered(self, seen: &Seen, count: u64) -> bool
+        ensures some { (shapes : List (ℕ × Shape)) → Sees self.entry.steps.now shapes seen.now
+            → last_seen seen.now ≤ count → result ≡ true
+            → IsAnyUncovered shapes self.entry.steps.now count }
+        ensures none { (shapes : List (ℕ × Shape)) → Sees self.entry.steps.now shapes seen.now
+            → last_seen seen.now ≤ count → result ≡ false
+            → IsAnyUncovered shapes self.entry.steps.now count → ⊥ }
+    {
         let rt = self.rt;
         let mut notes = Notes::new(rt, self.strict, "fault cover");
         let mut places = self.texts.places(rt.alloc());

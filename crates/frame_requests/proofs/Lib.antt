@@ -1,2 +1,3 @@
+pub mod FirstUncovered
 pub mod OptionsRead
 pub mod Refusals

@@ -1,7 +1,7 @@
 -- Options that are read one after the other.
-use Rattle.std.proofs.Common.{◌≡◌, ◌≤◌, ℕ, ◌-◌, List, [], ◌∷◌, ◌++◌, Some, None, Ok, refl, sym, ap, subst, ◌∙◌, arith, length, map, take, drop, Bor}
+use Rattle.std.proofs.Common.{◌≡◌, ◌≤◌, ℕ, ◌-◌, List, [], ◌∷◌, ◌++◌, Some, None, Ok, sym, ap, subst, ◌∙◌, arith, length, map, take, drop, Bor}
 use Rattle.std.proofs.lemmas.List.{take_all, drop-map, drop_all, length-map, length-drop}
-use Rattle.frame_requests.specs.Options.{Adds, AreOptions, BeginWith, Front, item_at, no_options, with_item}
+use Rattle.frame_requests.specs.Options.{Adds, BeginWith, Front, item_at, no_options, with_item}
 use Rattle.frame_requests.specs.declared.options.Item.{Item}
 use Rattle.frame_requests.specs.declared.options.Options.{Options}
 

@@ -1,6 +1,7 @@
 //! What was found of the input of a run.
 
-ghost use Rattle.std.specs.Prelude.{◌≡◌, ◌≤◌, ℕ, None, Some, IfSome};
+ghost use Rattle.std.specs.Prelude.{◌≡◌, ◌≤◌, ◌<◌, ℕ, None, Some, IfSome, List, [], ◌∷◌, true, false};
+ghost use Rattle.std.specs.List.{slice_get};
 
 use frame_edits::{
     Edit, picture_covers_nothing, picture_window, video_covers_nothing, video_window,
@@ -18,6 +19,40 @@ pub enum Shape {
     Picture(Picture),
 }
 
+// Whether frames of two videos have the same planes and samples.
+fn has_same_samples(a: Format, b: Format) -> bool
+    ensures chroma { result ≡ true → a.chroma ≡ b.chroma }
+    ensures pixel { result ≡ true → a.pixel ≡ b.pixel }
+{
+    a.chroma == b.chroma && a.pixel == b.pixel
+}
+
+// Whether the lines of two videos name the same frames.
+fn is_same_format(a: Format, b: Format) -> bool
+    ensures { result ≡ true → a ≡ b }
+{
+    let same_size = a.width == b.width && a.height == b.height;
+    let same_rows = a.interlaced == b.interlaced && a.square == b.square;
+    same_size && same_rows && has_same_samples(a, b)
+}
+
+fn is_same_rate(a: Option<Rate>, b: Option<Rate>) -> bool
+    ensures { result ≡ true → a ≡ b }
+{
+    match (a, b) {
+        (Some(a), Some(b)) => a.frames == b.frames && a.seconds == b.seconds,
+        (None, None) => true,
+        _ => false,
+    }
+}
+
+// Whether two pictures have the same size and kind.
+fn is_same_picture(a: Picture, b: Picture) -> bool
+    ensures { result ≡ true → a ≡ b }
+{
+    a.width == b.width && a.height == b.height && a.kind == b.kind && a.greatest == b.greatest
+}
+
 impl Shape {
     ghost use Rattle.frame_requests.specs.Uncovered.{KeepsMarginIn, drawn_in, is_empty_in, rate_in, size_in};
 
@@ -28,6 +63,19 @@ impl Shape {
         match self {
             Shape::Video(format, _) => video_covers_nothing(format, edit),
             Shape::Picture(picture) => picture_covers_nothing(picture, edit),
+        }
+    }
+
+    // Whether frames of the other shape are as these.
+    fn is_same(self, other: Shape) -> bool
+        ensures { result ≡ true → self ≡ other }
+    {
+        match (self, other) {
+            (Shape::Video(a, rate), Shape::Video(b, other)) => {
+                is_same_format(a, b) && is_same_rate(rate, other)
+            }
+            (Shape::Picture(a), Shape::Picture(b)) => is_same_picture(a, b),
+            _ => false,
         }
     }
 
@@ -73,6 +121,7 @@ pub struct Stretch {
 
 impl Stretch {
     ghost use Rattle.frame_requests.specs.Uncovered.{IsUncovered};
+    ghost use Rattle.frame_requests.specs.Seen.{FirstFound};
 
     /// The first frame of these that the edit names, where it is a cover and covers nothing in it.
     pub fn uncovered(self, edit: &Edit) -> Option<u64>
@@ -93,7 +142,9 @@ impl Stretch {
     }
 
     // The same with the size of the frame.
-    fn found(self, edit: &Edit) -> Option<Uncovered> {
+    fn found(self, edit: &Edit) -> Option<Uncovered>
+        ensures { FirstFound self edit.now result }
+    {
         let frame = self.uncovered(edit)?;
         let (width, height) = self.shape.size();
         Some(Uncovered {
@@ -112,7 +163,81 @@ pub struct Uncovered {
     pub height: usize,
 }
 
-/// What was read last, for messages. Of covers that cover nothing no clause says which were found.
+// In which frames edits cover nothing.
+#[derive(Drop)]
+enum Known {
+    // The first of them by the number of the edit, where one was found.
+    All(Vec<Option<Uncovered>>),
+    // The number of the edit and the frame that were found first: there was no memory for others.
+    One(usize, Uncovered),
+}
+
+impl Known {
+    // These name the type itself.
+    ghost use Rattle.frame_requests.specs.Seen.{HasItsShape, HasPlace, Keeps, Knows, known_of};
+    ghost use Rattle.frame_requests.specs.declared.seen.Shape.{Shape};
+
+    // The first such frame of the edit of this number, where it is known whether there is one.
+    fn of(&self, number: usize) -> Option<Option<Uncovered>>
+        ensures { result ≡ known_of self.now number }
+    {
+        match self {
+            Known::All(places) => match places.get(number) {
+                Some(place) => Some(*place),
+                None => Some(None),
+            },
+            Known::One(at, found) => (*at == number).then_some(Some(*found)),
+        }
+    }
+
+    // Makes room for the edit of this number, of so many. Returns false where there is no memory.
+    fn make_room(&mut self, number: usize, len: usize) -> bool
+        requires { number < len }
+        ensures same { result ≡ true → (n : ℕ) → known_of self.new n ≡ known_of self.old n }
+        ensures room { result ≡ true → HasPlace self.new number }
+        ensures none { result ≡ false → known_of self.old number ≡ Some None }
+    {
+        match self {
+            Known::All(places) => number < places.len() || places.resize(len, None).is_ok(),
+            Known::One(..) => true,
+        }
+    }
+
+    // Keeps that the edit of this number, of so many, covers nothing in a frame, where no frame before
+    // it is known.
+    fn keep(&mut self, number: usize, len: usize, found: Uncovered)
+        requires { number < len }
+        ensures { Keeps number found self.old self.new }
+    {
+        if !self.make_room(number, len) {
+            *self = Known::One(number, found);
+            return;
+        }
+        if let Known::All(places) = self {
+            if let Some(place) = places.get_mut(number) {
+                if place.is_none() {
+                    *place = Some(found);
+                }
+            }
+        }
+    }
+
+    // Keeps which edits cover nothing in these frames, which come after those that are known.
+    fn end(&mut self, stretch: Stretch, steps: &[Edit])
+        ensures { (shapes : List (ℕ × Shape)) → HasItsShape shapes stretch
+            → stretch.first ≤ stretch.end
+            → Knows self.old steps.now shapes (λ at. stretch.first)
+            → Knows self.new steps.now shapes (λ at. stretch.end) }
+    {
+        for at in 0..steps.len() {
+            if let Some(found) = stretch.found(&steps[at]) {
+                self.keep(at, steps.len(), found);
+            }
+        }
+    }
+}
+
+/// What was read last, for messages, and in which frames edits cover nothing.
 #[derive(Drop)]
 pub struct Seen {
     shape: Option<Shape>,
@@ -120,29 +245,29 @@ pub struct Seen {
     first: u64,
     // The number of the frame or the picture whose line or head was read last.
     last: u64,
-    // The first cover that was found to cover nothing in a frame of a shape before it.
-    found: Option<(usize, Uncovered)>,
-    // The same of each edit, where one was found.
-    uncovered: Vec<Option<Uncovered>>,
+    // What is known of the frames before those of the last shape.
+    known: Known,
     // The shapes, each with the number of its first frame. Not where there was no memory for one.
     shapes: Option<Vec<(u64, Shape)>>,
 }
 
 impl Seen {
     // These name the type itself.
-    ghost use Rattle.frame_requests.specs.Seen.{last_seen, rate_seen, shape_seen};
+    ghost use Rattle.frame_edits.specs.declared.words.Edit.{Edit};
+    ghost use Rattle.frame_requests.specs.declared.seen.Shape.{Shape};
+    ghost use Rattle.frame_requests.specs.Seen.{HasLastShape, IsFirstUncovered, IsOtherTold, Knows, NoneUncovered, SameButKnown, SameButShapes, Sees, is_told, last_seen, rate_seen, shape_seen, stretch_of};
 
     /// No line and no head.
     pub fn nothing(alloc: Global) -> Seen
         ensures shape { shape_seen result ≡ None }
         ensures last { last_seen result ≡ 0 }
+        ensures sees { (steps : List Edit) → Sees steps [] result }
     {
         Seen {
             shape: None,
             first: 0,
             last: 0,
-            found: None,
-            uncovered: Vec::new(alloc),
+            known: Known::All(Vec::new(alloc)),
             shapes: None,
         }
     }
@@ -151,6 +276,7 @@ impl Seen {
     pub fn for_report(alloc: Global) -> Seen
         ensures shape { shape_seen result ≡ None }
         ensures last { last_seen result ≡ 0 }
+        ensures sees { (steps : List Edit) → Sees steps [] result }
     {
         Seen {
             shapes: Some(Vec::new(alloc)),
@@ -166,9 +292,20 @@ impl Seen {
         }
     }
 
+    // The frames of the last shape, of so many frames.
+    fn stretch(&self, count: u64) -> Option<Stretch>
+        ensures { result ≡ stretch_of self.now count }
+    {
+        Some(Stretch {
+            shape: self.shape?,
+            first: self.first,
+            end: count,
+        })
+    }
+
     // Keeps a shape for a report.
     fn keep_shape(&mut self, number: u64, shape: Shape)
-        ensures same_last { last_seen self.new ≡ last_seen self.old }
+        ensures others { SameButShapes self.old self.new }
     {
         let is_kept = match &mut self.shapes {
             Some(shapes) => shapes.push((number, shape)).is_ok(),
@@ -200,72 +337,59 @@ impl Seen {
         self.shape?.rate()
     }
 
-    // The frames of the last shape, of so many frames.
-    fn stretch(&self, count: u64) -> Option<Stretch> {
-        Some(Stretch {
-            shape: self.shape?,
-            first: self.first,
-            end: count,
-        })
-    }
-
-    // Keeps that the edit of this number, of so many, covers nothing there. Where there is no memory
-    // for that, it is only known of the first.
-    fn keep(&mut self, number: usize, len: usize, uncovered: Uncovered)
-        ensures same_last { last_seen self.new ≡ last_seen self.old }
-    {
-        if self.found.is_none() {
-            self.found = Some((number, uncovered));
-        }
-        if self.uncovered.is_empty() && self.uncovered.resize(len, None).is_err() {
-            return;
-        }
-        if let Some(place) = self.uncovered.get_mut(number) {
-            if place.is_none() {
-                *place = Some(uncovered);
-            }
-        }
-    }
-
     // The frames of the last shape end before this one: keeps which edits cover nothing in them.
-    fn end_stretch(&mut self, number: u64, steps: &[Edit])
-        ensures same_last { last_seen self.new ≡ last_seen self.old }
+    fn end_stretch(&mut self, end: u64, steps: &[Edit])
+        ensures others { SameButKnown self.old self.new }
+        ensures known { (shapes : List (ℕ × Shape)) → HasLastShape shapes self.old
+            → self.old.first ≤ end
+            → Knows self.old.known steps.now shapes (λ at. self.old.first)
+            → Knows self.new.known steps.now shapes (λ at. end) }
     {
-        let Some(stretch) = self.stretch(number) else {
+        let Some(stretch) = self.stretch(end) else {
             return;
         };
-        for at in 0..steps.len() {
-            if let Some(uncovered) = stretch.found(&steps[at]) {
-                self.keep(at, steps.len(), uncovered);
-            }
-        }
+        self.known.end(stretch, steps);
     }
 
     /// The line of a video was read, or the head of the picture of this number.
     pub fn see(&mut self, number: u64, shape: Shape, steps: &[Edit])
         ensures shape { shape_seen self.new ≡ Some shape }
         ensures last { last_seen self.new ≡ number }
+
+        // One shape more was seen.
+        ensures sees { (shapes : List (ℕ × Shape)) → Sees steps.now shapes self.old
+            → last_seen self.old ≤ number
+            → Sees steps.now ((number, shape) ∷ shapes) self.new }
     {
         self.last = number;
-        if self.shape != Some(shape) {
-            self.end_stretch(number, steps);
-            self.keep_shape(number, shape);
-            self.first = number;
+        if let Some(before) = self.shape {
+            if before.is_same(shape) {
+                return;
+            }
         }
+        self.end_stretch(number, steps);
+        self.keep_shape(number, shape);
+        self.first = number;
         self.shape = Some(shape);
     }
 
     /// Where so many frames were read: the first of them in which the edit of this number is a cover
-    /// that covers nothing.
-    pub fn uncovered(&self, number: usize, edit: &Edit, count: u64) -> Option<Uncovered> {
-        if let Some(Some(uncovered)) = self.uncovered.get(number) {
-            return Some(*uncovered);
+    /// that covers nothing. Where there was no memory to keep it for each edit, it is told of the edit
+    /// that was found first.
+    pub fn uncovered(&self, number: usize, edit: &Edit, count: u64) -> Option<Uncovered>
+        ensures found { (steps : List Edit) (shapes : List (ℕ × Shape)) → Sees steps shapes self.now
+            → slice_get steps number ≡ Some edit.now → last_seen self.now ≤ count
+            → IfSome result (IsFirstUncovered shapes edit.now count) }
+        ensures none { (steps : List Edit) (shapes : List (ℕ × Shape)) → Sees steps shapes self.now
+            → slice_get steps number ≡ Some edit.now → result ≡ None → is_told self.now number ≡ true
+            → NoneUncovered shapes edit.now count }
+        ensures other { (steps : List Edit) (shapes : List (ℕ × Shape)) → Sees steps shapes self.now
+            → last_seen self.now ≤ count → is_told self.now number ≡ false
+            → IsOtherTold self.now steps shapes count }
+    {
+        match self.known.of(number)? {
+            Some(uncovered) => Some(uncovered),
+            None => self.stretch(count)?.found(edit),
         }
-        if let Some((first, uncovered)) = self.found {
-            if first == number {
-                return Some(uncovered);
-            }
-        }
-        self.stretch(count)?.found(edit)
     }
 }

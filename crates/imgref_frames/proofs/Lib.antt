@@ -10,4 +10,5 @@ pub mod OneOutput
 pub mod Outcomes
 pub mod Pieces
 pub mod Rounds
+pub mod Seeing
 pub mod Starts

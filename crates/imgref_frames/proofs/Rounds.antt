@@ -148,7 +148,7 @@ module _ (edit : Edits) (n : ℕ) (r0 r1 r2 w0 w1 w2 : Option (List ℕ)) (withi
   picture_stopped Input c = ends_some (PictureHead edit) n r0 r1 w0 w1 p Anything (nothing_said n r1) w2 c
 
 -- the letter of the next picture
-none_read : (old new : Option (List ℕ)) → Consumes old new (80 ∷ []) → Consumes old (behind_letter new) []
+pub none_read : (old new : Option (List ℕ)) → Consumes old new (80 ∷ []) → Consumes old (behind_letter new) []
 none_read None new read = tt
 none_read (Some bytes) None read = absurd read
 none_read (Some bytes) (Some rest) read = read
@@ -189,7 +189,7 @@ memory_count edit n r1 r2 w1 w2 e passes k is = (subst (λ (f : RunFault). Passe
 -- ---- the first byte of pictures
 
 -- what was read from the letter on was read from the first byte on
-read_behind : (old left new : Option (List ℕ)) (bytes : List ℕ) → Consumes old left (80 ∷ []) → Consumes (behind_letter left) new bytes → Consumes old new bytes
+pub read_behind : (old left new : Option (List ℕ)) (bytes : List ℕ) → Consumes old left (80 ∷ []) → Consumes (behind_letter left) new bytes → Consumes old new bytes
 read_behind None left new bytes letter read = tt
 read_behind (Some all) None new bytes letter read = absurd letter
 read_behind (Some all) (Some rest) new bytes letter read = subst (λ (l : List ℕ). Consumes (Some l) new bytes) (sym letter) read

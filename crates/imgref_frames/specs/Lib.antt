@@ -5,5 +5,6 @@ pub mod Passing
 pub mod Pictures
 pub mod Program
 pub mod Request
+pub mod Seen
 pub mod Stream
 pub mod Video

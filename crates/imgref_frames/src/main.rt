@@ -81,7 +81,7 @@ Cover first: a move, a mosaic, means or a blur before a cover may show what it c
 See docs/FRAMES.md.";
 
 // The version of the program and of the library.
-const VERSION: &str = "imgref_frames 0.3.0";
+const VERSION: &str = "imgref_frames 0.3.1";
 
 // The status where a range was not reached, and that is a fault.
 const RANGE: u8 = 8;

@@ -1,6 +1,6 @@
 //! Pictures, one after the other, read, edited and written one by one.
 
-ghost use Rattle.std.specs.Prelude.{◌≡◌, ◌≢◌, ◌+◌, ◌≤◌, ◌<◌, max, vec_capacity, None, true, false, IfOk, IfErr, IfSome, OnOk};
+ghost use Rattle.std.specs.Prelude.{◌≡◌, ◌≢◌, ◌+◌, ◌≤◌, ◌<◌, max, vec_capacity, [], None, true, false, IfOk, IfErr, IfSome, OnOk};
 ghost use Rattle.devices.specs.Device.{device_of, failures_of};
 ghost use Rattle.frame_formats.specs.Planned.{recipe_of};
 ghost use Rattle.frame_formats.specs.Recipe.{picture_recipe};
@@ -10,6 +10,8 @@ ghost use Rattle.imgref_frames.specs.Kept.{IsKept, kept_picture, picture_in, Has
 ghost use Rattle.imgref_frames.specs.Passing.{PassesPicture, PassesPictures};
 ghost use Rattle.imgref_frames.specs.Pictures.{HeadIs, behind_letter};
 ghost use Rattle.imgref_frames.specs.Request.{edits_of};
+ghost use Rattle.imgref_frames.specs.Seen.{PicturesSee, SeesPicture};
+ghost use Rattle.frame_requests.specs.Seen.{Sees};
 
 use crate::cells::pass_cells;
 use crate::request::{Request, fault_of_plan, is_over};
@@ -199,6 +201,8 @@ fn pass_picture<R: Read, W: Write>(
     ensures stops { PictureStops result (edits_of request.entry) (kept_picture kept)
         (behind_letter (R.remaining (device_of reader.old)))
         (R.remaining (device_of reader.new)) }
+    ensures seen { SeesPicture (picture_in result) (edits_of request.entry) number seen.old
+        seen.new }
     ensures counts { Counts result (failures_of reader.old) (failures_of reader.new)
         (failures_of writer.old) (failures_of writer.new) }
 {
@@ -232,6 +236,9 @@ pub(crate) fn pass_pictures<R: Read, W: Write>(
     ensures stops { PicturesStop result (edits_of request.entry)
         (behind_letter (R.remaining (device_of reader.old)))
         (R.remaining (device_of reader.new)) }
+    ensures seen { Sees request.entry.steps.now [] seen.old
+        → PicturesSee result (edits_of request.entry)
+        (behind_letter (R.remaining (device_of reader.old))) seen.new }
     ensures counts { Counts result (failures_of reader.old) (failures_of reader.new)
         (failures_of writer.old) (failures_of writer.new) }
 {

@@ -9,6 +9,8 @@ ghost use Rattle.image_planes.specs.Scratch.{HasRoom, room_len};
 ghost use Rattle.imgref_frames.specs.Alike.{Hides, OneOutput};
 ghost use Rattle.imgref_frames.specs.Kept.{Stops, VideoStopsAfter};
 ghost use Rattle.imgref_frames.specs.Request.{edits_of};
+ghost use Rattle.imgref_frames.specs.Seen.{RunSees, VideoSeesAfter};
+ghost use Rattle.frame_requests.specs.Seen.{Sees};
 ghost use Rattle.imgref_frames.specs.Program.{Follows, Writes, begins_picture};
 
 use crate::frames::pass_frames;
@@ -80,6 +82,9 @@ fn run_video<R: Read, W: Write>(
         (W.contents (device_of writer.new)) }
     ensures stops { VideoStopsAfter result (edits_of request.entry) (line.now ++ 10 ∷ [])
         (R.remaining (device_of reader.old)) (R.remaining (device_of reader.new)) }
+    ensures seen { Sees request.entry.steps.now [] seen.old
+        → VideoSeesAfter result (edits_of request.entry) (line.now ++ 10 ∷ [])
+        (R.remaining (device_of reader.old)) seen.new }
     ensures counts { Counts result (failures_of reader.old) (failures_of reader.new)
         (failures_of writer.old) (failures_of writer.new) }
 {
@@ -126,6 +131,9 @@ fn carry_video<R: Read, W: Write>(
         (W.contents (device_of writer.new)) }
     ensures stops { VideoStopsAfter result (edits_of request.entry) (first ∷ [])
         (R.remaining (device_of reader.old)) (R.remaining (device_of reader.new)) }
+    ensures seen { Sees request.entry.steps.now [] seen.old
+        → VideoSeesAfter result (edits_of request.entry) (first ∷ [])
+        (R.remaining (device_of reader.old)) seen.new }
     ensures counts { Counts result (failures_of reader.old) (failures_of reader.new)
         (failures_of writer.old) (failures_of writer.new) }
 {
@@ -168,6 +176,11 @@ pub fn run<R: Read, W: Write>(
     // of that video or picture.
     ensures stops { Stops result (edits steps.now framing) (R.remaining (device_of reader.old))
         (R.remaining (device_of reader.new)) }
+
+    // Of the video that was read, or of the pictures, it is known which shape each frame has, and of
+    // these shapes in which frames an edit covers nothing.
+    ensures seen { Sees steps.now [] seen.old
+        → RunSees result (edits steps.now framing) (R.remaining (device_of reader.old)) seen.new }
 
     // Each count grew exactly where the result is that device's fault.
     ensures reader_count { failures_of reader.new

@@ -1,5 +1,5 @@
 use Rattle.std.proofs.Common.{◌∙◌, ap, sym, Ok}
-use Rattle.frame_requests.proofs.OptionsRead.{none_read, one_read, front_read, all_read}
+use Rattle.frame_requests.proofs.OptionsRead.{one_read, front_read, all_read}
 use Rattle.frame_requests.proofs.options.read_options.Goals as goal
 
 pub returns-in-Ok-None-clause-options : goal.returns-in-Ok-None-clause-options

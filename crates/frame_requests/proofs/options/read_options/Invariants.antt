@@ -1,4 +1,4 @@
-use Rattle.std.proofs.Common.{length, ◌-◌, map, Bor}
+use Rattle.std.proofs.Common.{length, ◌-◌, map}
 use Rattle.frame_requests.specs.Options.{BeginWith}
 use Rattle.frame_requests.proofs.options.read_options.Given as goal
 

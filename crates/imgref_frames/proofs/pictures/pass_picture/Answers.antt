@@ -1,11 +1,12 @@
 -- The head was read, and then the cells after it.
-use Rattle.std.proofs.Common.{Ok, Err, arith, sym, subst, refl}
+use Rattle.std.proofs.Common.{Ok, Err, arith, sym, subst, refl, inr}
 use Rattle.devices.specs.Device.{device_of}
 use Rattle.frame_formats.specs.Planned.{recipe_of}
 use Rattle.imgref_frames.specs.Request.{edits_of}
 use Rattle.imgref_frames.specs.Kept.{kept_picture, picture_in, PictureStops}
 use Rattle.imgref_frames.specs.Passing.{PassesPicture}
 use Rattle.imgref_frames.specs.Pictures.{IsHead, behind_letter}
+use Rattle.imgref_frames.specs.Seen.{SeesNext, SeesPicture}
 use Rattle.imgref_frames.proofs.HandedOn.{handed_on}
 use Rattle.imgref_frames.proofs.Heads.{no_next}
 use Rattle.imgref_frames.proofs.Rounds.{picture_made, not_planned, new_head}
@@ -47,3 +48,20 @@ returns-in_err-pass_cells-clause-passes g c =
     kept c.from_residual-in_err-pass_cells.result c.in_err-pass_cells.field-0.0 c.from_residual-in_err-pass_cells.ensures
     (picture_made c.heads_end_themselves.ensures.apart c.heads_end_themselves.ensures.begins (edits_of c.args.request) c.args.number made.picture (recipe_of made.plan) found.0 (subst (IsHead found.0) (sym c.in_ok-made.ensures.picture) found.1) c.in_ok-made.ensures.kept.plan _ _ _ _ _ found.2 (Err c.in_err-pass_cells.field-0.0)
     (rw (sym c.head-head.ensures) c.in_err-pass_cells.ensures.passes))
+
+-- ---- the head was seen
+
+pub returns-clause-seen : goal.returns-clause-seen
+returns-clause-seen g c shapes sees last = subst (SeesNext (edits_of c.args.request) c.args.number shapes c.see.new.self) (sym c.in_ok-made.ensures.picture) (c.see.ensures.sees shapes sees last)
+
+pub returns-in_err-made-clause-seen : goal.returns-in_err-made-clause-seen
+returns-in_err-made-clause-seen g c =
+    handed_on (λ r. SeesPicture (picture_in r) (edits_of c.args.request) c.args.number c.args.seen.now c.see.new.self)
+    c.from_residual-in_err-made.result c.in_err-made.field-0.0 c.from_residual-in_err-made.ensures
+    (inr (c.in-Some.picture, λ shapes sees last. c.see.ensures.sees shapes sees last))
+
+pub returns-in_err-pass_cells-clause-seen : goal.returns-in_err-pass_cells-clause-seen
+returns-in_err-pass_cells-clause-seen g c =
+    handed_on (λ r. SeesPicture (picture_in r) (edits_of c.args.request) c.args.number c.args.seen.now c.see.new.self)
+    c.from_residual-in_err-pass_cells.result c.in_err-pass_cells.field-0.0 c.from_residual-in_err-pass_cells.ensures
+    (inr (c.in-Some.picture, λ shapes sees last. c.see.ensures.sees shapes sees last))

@@ -7,11 +7,13 @@ use Rattle.imgref_frames.specs.Request.{edits_of}
 use Rattle.imgref_frames.specs.Pictures.{PictureHead, behind_letter}
 use Rattle.imgref_frames.specs.Kept.{PicturesStop}
 use Rattle.imgref_frames.specs.Passing.{Passed, PassesPictures}
+use Rattle.imgref_frames.specs.Seen.{PicturesSee, SeesPictures}
 use Rattle.frame_messages.specs.declared.fault.RunFault.TheVariants.{Input}
 use Rattle.imgref_frames.proofs.HandedOn.{handed_on}
 use Rattle.imgref_frames.proofs.Heads.{other_letter, last_letter}
 use Rattle.imgref_frames.proofs.OneMore.{passed_on}
 use Rattle.imgref_frames.proofs.Rounds.{picture_passed, picture_last, picture_stopped, next_letter_last, none_last, next_head, memory_count, nothing_said}
+use Rattle.imgref_frames.proofs.Seeing.{letter_seen, none_seen, picture_seen, pictures_stopped}
 use Rattle.imgref_frames.proofs.pictures.pass_pictures.Goals as goal
 
 pub returns-in_err-pass_picture-clause-passes : goal.returns-in_err-pass_picture-clause-passes
@@ -57,6 +59,7 @@ loop-number-init g c = record {
   kept = tt;
   read = refl;
   written = refl;
+  seen = λ sees. none_seen (edits_of c.args.request) (behind_letter (g.R.Read.remaining (device_of c.args.reader.now))) c.args.seen.now sees (omega (arith, sees.last));
 }
 
 -- out of memory at the head of another picture
@@ -73,6 +76,8 @@ loop-number-preserved g c = record {
   kept = c.in_ok-pass_picture.ensures.kept;
   read = grind (arith, common_steps);
   written = grind (arith, common_steps);
+  seen = λ sees. letter_seen (edits_of c.args.request) (c.loop-number.number + 1) _ _ _ _ (picture_seen (edits_of c.args.request) c.loop-number.number _ _ _ _ _ (c.loop-number.invariant.seen sees) _ _ c.in_ok-pass_picture.field-0.picture c.in_ok-pass_picture.ensures.passes c.in_ok-pass_picture.ensures.seen)
+      (subst (λ b. Consumes (g.R.Read.remaining (device_of c.pass_picture.new.reader)) (g.R.Read.remaining (device_of c.read_byte.new.reader)) (b ∷ [])) c.in-Some-eq80.field-0-test (rw c.in-Some-eq80.is at c.in_ok-read_byte.ensures.byte));
 }
 
 -- as many pictures as a number counts, and the letter of one more
@@ -85,3 +90,29 @@ returns-clause-passes g c =
       passed = subst (λ n. Passed heads n (behind_letter (g.R.Read.remaining (device_of c.args.reader.now))) left (g.W.Write.contents (device_of c.args.writer.now)) (g.W.Write.contents (device_of c.loop-number.writer))) (omega arith) c.loop-number.invariant.passed.passed;
       ends = last_letter (edits_of c.args.request) (g.R.Read.remaining (device_of c.loop-number.reader));
     }
+
+-- ---- which shapes were seen
+
+pub returns-in_err-pass_picture-clause-seen : goal.returns-in_err-pass_picture-clause-seen
+returns-in_err-pass_picture-clause-seen g c sees =
+    handed_on (λ r. PicturesSee r (edits_of c.args.request) (behind_letter (g.R.Read.remaining (device_of c.args.reader.now))) c.pass_picture.new.seen)
+    c.from_residual.result c.in_err-pass_picture.field-0.0 c.from_residual.ensures
+    (pictures_stopped (edits_of c.args.request) c.loop-number.number _ _ _ _ _ (c.loop-number.invariant.seen sees) _ _ c.in_err-pass_picture.field-0.0 c.in_err-pass_picture.ensures.passes c.in_err-pass_picture.ensures.seen)
+
+pub returns-in-Some-clause-seen : goal.returns-in-Some-clause-seen
+returns-in-Some-clause-seen g c sees = (_, picture_seen (edits_of c.args.request) c.loop-number.number _ _ _ _ _ (c.loop-number.invariant.seen sees) _ _ c.in_ok-pass_picture.field-0.picture c.in_ok-pass_picture.ensures.passes c.in_ok-pass_picture.ensures.seen)
+
+pub returns-in-None-clause-seen : goal.returns-in-None-clause-seen
+returns-in-None-clause-seen g c sees = (_, picture_seen (edits_of c.args.request) c.loop-number.number _ _ _ _ _ (c.loop-number.invariant.seen sees) _ _ c.in_ok-pass_picture.field-0.picture c.in_ok-pass_picture.ensures.passes c.in_ok-pass_picture.ensures.seen)
+
+pub returns-in_err-read_byte-clause-seen : goal.returns-in_err-read_byte-clause-seen
+returns-in_err-read_byte-clause-seen g c sees =
+    handed_on (λ r. PicturesSee r (edits_of c.args.request) (behind_letter (g.R.Read.remaining (device_of c.args.reader.now))) c.pass_picture.new.seen)
+    c.from_residual-in_err-read_byte.result Input c.from_residual-in_err-read_byte.ensures
+    (c.loop-number.number + 1, (_, picture_seen (edits_of c.args.request) c.loop-number.number _ _ _ _ _ (c.loop-number.invariant.seen sees) _ _ c.in_ok-pass_picture.field-0.picture c.in_ok-pass_picture.ensures.passes c.in_ok-pass_picture.ensures.seen))
+
+pub returns-clause-seen : goal.returns-clause-seen
+returns-clause-seen g c sees = (
+  _,
+  subst (λ n. SeesPictures (edits_of c.args.request) n (behind_letter (g.R.Read.remaining (device_of c.args.reader.now))) (behind_letter (g.R.Read.remaining (device_of c.loop-number.reader))) c.loop-number.seen) (omega arith) (c.loop-number.invariant.seen sees),
+)

@@ -1,8 +1,10 @@
-use Rattle.std.proofs.Common.{◌≡◌, IfSome}
+use Rattle.std.proofs.Common.{◌≡◌, [], IfSome}
 use Rattle.std.specs.Prelude.{vec_capacity}
 use Rattle.imgref_frames.specs.Request.{edits_of}
 use Rattle.imgref_frames.specs.Kept.{IsKept, PassedLast, kept_picture}
 use Rattle.imgref_frames.specs.Pictures.{behind_letter}
+use Rattle.imgref_frames.specs.Seen.{SeesPictures}
+use Rattle.frame_requests.specs.Seen.{Sees}
 use Rattle.devices.specs.Device.{device_of, failures_of}
 use Rattle.imgref_frames.proofs.pictures.pass_pictures.Given as goal
 
@@ -13,4 +15,5 @@ invariant-loop-number g l = record {
   kept : IfSome l.kept (IsKept (edits_of l.fn.request) (vec_capacity l.cells) (vec_capacity l.other));
   read : failures_of l.reader ≡ failures_of l.initial.reader;
   written : failures_of l.writer ≡ failures_of l.initial.writer;
+  seen : Sees (edits_of l.fn.request).steps [] l.initial.seen → SeesPictures (edits_of l.fn.request) l.number (behind_letter (g.R.Read.remaining (device_of l.initial.reader))) (behind_letter (g.R.Read.remaining (device_of l.reader))) l.seen;
 }

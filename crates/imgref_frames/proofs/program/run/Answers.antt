@@ -1,5 +1,5 @@
 -- Pictures begin with their letter. What is hidden, and that the output is one, follows from what was written.
-use Rattle.std.proofs.Common.{◌∷◌, [], Err, subst, arith, rules}
+use Rattle.std.proofs.Common.{◌∷◌, [], Err, subst, arith, rules, inl}
 use Rattle.std.proofs.lemmas.Grind.{common_steps}
 use Rattle.std.specs.Io.KnownBytes.{Consumes}
 use Rattle.devices.specs.Device.{device_of}
@@ -10,6 +10,7 @@ use Rattle.imgref_frames.proofs.Carrying.{behind_first}
 use Rattle.imgref_frames.proofs.Hiding.{Laws, hides}
 use Rattle.imgref_frames.proofs.OneOutput.{one_output}
 use Rattle.imgref_frames.proofs.Rounds.{behind_letter_stops}
+use Rattle.imgref_frames.proofs.Seeing.{behind_letter_seen}
 use Rattle.imgref_frames.proofs.program.run.Goals as goal
 use Rattle.imgref_frames.proofs.program.run.Goals.{After-heads_end_themselves, After-pass_pictures}
 
@@ -50,3 +51,17 @@ returns-in-Ok-None-clause-one_output g c = one_output (laws g (goal.at.returns-i
 
 pub returns-in-Err-clause-one_output : goal.returns-in-Err-clause-one_output
 returns-in-Err-clause-one_output g c = one_output (laws g (goal.at.returns-in-Err-clause-one_output g c).After-heads_end_themselves)
+
+-- the shapes of the pictures or of the video were seen
+pub returns-in-Ok-Some-eq80-clause-seen : goal.returns-in-Ok-Some-eq80-clause-seen
+returns-in-Ok-Some-eq80-clause-seen g c sees = behind_letter_seen c.pass_pictures.result (edits c.args.steps.now c.args.framing) (g.R.Read.remaining (device_of c.args.reader.now)) (g.R.Read.remaining (device_of c.read_byte.new.reader)) c.pass_pictures.new.seen
+    (subst (λ b. Consumes (g.R.Read.remaining (device_of c.args.reader.now)) (g.R.Read.remaining (device_of c.read_byte.new.reader)) (b ∷ [])) c.in-Ok-Some-eq80.field-0-0-test (rw c.in-Ok-Some-eq80.field-0-is at c.in-Ok-Some-eq80.ensures.byte)) (c.pass_pictures.ensures.seen sees)
+
+pub returns-in-Ok-Some-clause-seen : goal.returns-in-Ok-Some-clause-seen
+returns-in-Ok-Some-clause-seen g c sees = inl (c.carry_video.ensures.seen sees (g.R.Read.remaining (device_of c.args.reader.now)) (rw c.in-Ok-Some.field-0-is at c.in-Ok-Some.ensures.byte))
+
+pub returns-in-Ok-None-clause-seen : goal.returns-in-Ok-None-clause-seen
+returns-in-Ok-None-clause-seen g c sees = inl sees
+
+pub returns-in-Err-clause-seen : goal.returns-in-Err-clause-seen
+returns-in-Err-clause-seen g c sees = inl (inl sees)

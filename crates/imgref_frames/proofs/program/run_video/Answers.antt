@@ -1,5 +1,5 @@
 -- The line is written, and then the frames.
-use Rattle.std.proofs.Common.{List, ℕ, sym, subst, ◌∙◌}
+use Rattle.std.proofs.Common.{List, [], ℕ, sym, subst, ◌∙◌, arith}
 use Rattle.std.specs.Io.KnownBytes.{Appends}
 use Rattle.devices.specs.Whole.{AppendsBeginning}
 use Rattle.devices.specs.Device.{device_of}
@@ -14,6 +14,8 @@ use Rattle.frame_formats.specs.declared.plans.PlanFault.TheVariants.{Memory as N
 use Rattle.imgref_frames.proofs.Outcomes.{at_ok, at_err}
 use Rattle.imgref_frames.proofs.Carrying.{begun_line, no_format, not_planned, frames_written}
 use Rattle.imgref_frames.proofs.Starts.{line_read, plan_stops, video_starts}
+use Rattle.imgref_frames.specs.Seen.{VideoSees}
+use Rattle.imgref_frames.proofs.Seeing.{frames_seen, unplanned_seen, video_line}
 use Rattle.imgref_frames.proofs.program.run_video.Goals as goal
 
 pub returns-in_default-clause-follows : goal.returns-in_default-clause-follows
@@ -55,3 +57,22 @@ returns-in-Err-clause-stops g c input read = subst (λ (e : RunFault). VideoStop
 pub returns-in-Err-make_buffers-clause-stops : goal.returns-in-Err-make_buffers-clause-stops
 returns-in-Err-make_buffers-clause-stops g c input read = subst (λ (e : RunFault). VideoStops {T = ℕ} (Err e) (edits_of c.args.request) input (g.R.Read.remaining (device_of c.args.reader.now))) (sym c.in-Err-make_buffers.ensures.memory)
     (line_read (edits_of c.args.request) c.args.line.now c.in-Some.format (sym c.in-Some.ensures) (video_starts (edits_of c.args.request) c.args.line.now c.in-Some.format (recipe_of c.in-Ok.plan) (sym c.in-Some.ensures) c.in-Ok.ensures.plan) input (g.R.Read.remaining (device_of c.args.reader.now)) read)
+
+-- ---- the line was seen
+
+pub returns-in-Err-clause-seen : goal.returns-in-Err-clause-seen
+returns-in-Err-clause-seen g c sees input read = subst (λ (e : RunFault). VideoSees (Err e) (edits_of c.args.request) input c.see.new.self) (sym c.fault_of_plan.ensures)
+    (unplanned_seen c.in-Err.fault (edits_of c.args.request) input c.see.new.self (video_line (edits_of c.args.request) c.args.line.now c.in-Some.format (sym c.in-Some.ensures) input _ read _ c.read_rate.ensures c.see.new.self (c.see.ensures.sees [] sees (omega (arith, sees.last)))))
+
+pub returns-in-Err-make_buffers-clause-seen : goal.returns-in-Err-make_buffers-clause-seen
+returns-in-Err-make_buffers-clause-seen g c sees input read = subst (λ (e : RunFault). VideoSees (Err e) (edits_of c.args.request) input c.see.new.self) (sym c.in-Err-make_buffers.ensures.memory)
+    (video_line (edits_of c.args.request) c.args.line.now c.in-Some.format (sym c.in-Some.ensures) input _ read _ c.read_rate.ensures c.see.new.self (c.see.ensures.sees [] sees (omega (arith, sees.last))))
+
+pub returns-then-is_err-clause-seen : goal.returns-then-is_err-clause-seen
+returns-then-is_err-clause-seen g c sees input read =
+    video_line (edits_of c.args.request) c.args.line.now c.in-Some.format (sym c.in-Some.ensures) input _ read _ c.read_rate.ensures c.see.new.self (c.see.ensures.sees [] sees (omega (arith, sees.last)))
+
+pub returns-clause-seen : goal.returns-clause-seen
+returns-clause-seen g c sees input read =
+    frames_seen c.pass_frames.result (recipe_of c.in-Ok.plan) (edits_of c.args.request) input c.see.new.self _ _ _ _ c.pass_frames.ensures.passes
+    (video_line (edits_of c.args.request) c.args.line.now c.in-Some.format (sym c.in-Some.ensures) input _ read _ c.read_rate.ensures c.see.new.self (c.see.ensures.sees [] sees (omega (arith, sees.last))))
