@@ -18,10 +18,10 @@ pixels_more sums per at n (suc more) = let e : n + suc more ≡ n + more + 1 = o
 
 module _ (sums : List ℕ) (per at across p : ℕ) where
   -- the sum after the pixel that comes in, where there is one
-  pub comes_in : (before sum : ℕ) → before + pixels_upto sums per at (p - (across + 1)) ≡ pixels_upto sums per at (min (length sums / per) (p + across))
+  pub comes_in : (more before sum : ℕ) → before + pixels_upto sums per at (p - (across + 1)) ≡ more + pixels_upto sums per at (min (length sums / per) (p + across))
       → ((p + across < length sums / per) × (sum ≡ before + sum_at sums ((p + across) * per + at))) ⊎ ((length sums / per ≤ p + across) × (sum ≡ before))
-      → sum + pixels_upto sums per at (p - (across + 1)) ≡ pixels_upto sums per at (min (length sums / per) (p + across + 1))
-  comes_in before sum so (inl it) =
+      → sum + pixels_upto sums per at (p - (across + 1)) ≡ more + pixels_upto sums per at (min (length sums / per) (p + across + 1))
+  comes_in more before sum so (inl it) =
       omega (
         arith,
         so,
@@ -30,7 +30,7 @@ module _ (sums : List ℕ) (per at across p : ℕ) where
         ap (pixels_upto sums per at) (let e : min (length sums / per) (p + across) ≡ p + across = omega (arith, it.0) in e),
         ap (pixels_upto sums per at) (let e : min (length sums / per) (p + across + 1) ≡ p + across + 1 = omega (arith, it.0) in e),
       )
-  comes_in before sum so (inr none) = omega (arith, so, none.1, ap (pixels_upto sums per at) (let e : min (length sums / per) (p + across) ≡ min (length sums / per) (p + across + 1) = omega (arith, none.0) in e))
+  comes_in more before sum so (inr none) = omega (arith, so, none.1, ap (pixels_upto sums per at) (let e : min (length sums / per) (p + across) ≡ min (length sums / per) (p + across + 1) = omega (arith, none.0) in e))
 
   -- the pixel that goes out is a part of it
   pub goes_out : across < p → pixels_upto sums per at (p - across) ≡ pixels_upto sums per at (p - (across + 1)) + sum_at sums ((p - across - 1) * per + at)

@@ -43,14 +43,14 @@ module _ (number count : ℕ) (some : 0 < count) where
         let last : (whole + 1) * count * one ≡ (whole + 1) * one * count = mul_assoc (whole + 1) count one ∙ ap (λ n. (whole + 1) * n) (mul_comm count one) ∙ sym (mul_assoc (whole + 1) one count) in
         lt_of_mul-lt-mul_right count (omega (arith, turned, most, split, all, last, add-mul number 1 one, mul_comm one number, mul_comm count number, small))
 
-    pub by_factor : product / one ≡ whole
+    by_factor : product / one ≡ whole
     by_factor =
         let next : (whole + 1) * one ≡ whole * one + one = omega (arith, add-mul whole 1 one) in
         let all : whole * one + (product - whole * one) ≡ product = omega (arith, not_less) in
         ap (λ n. n / one) (sym all) ∙ div-mul-add whole one (product - whole * one) (omega (arith, not_less, not_more, next))
 
 -- a half of the count before the division rounds
-pub rounds : (sum count : ℕ) → 0 < count → (sum + count / 2) / count ≡ rounded_mean sum count
+rounds : (sum count : ℕ) → 0 < count → (sum + count / 2) / count ≡ rounded_mean sum count
 rounds sum count some =
     let number : ℕ = sum + count / 2 in
     let whole : ℕ = number / count in
@@ -70,7 +70,7 @@ module _ (sum count : ℕ) (some : 0 < count) (few : count ≤ 46340) (samples :
   number_below : sum + count / 2 < count * 65536
   number_below = omega (arith, samples, some)
 
-  pub number_small : (sum + count / 2) * count < 2 ^ 47
+  number_small : (sum + count / 2) * count < 2 ^ 47
   number_small =
       let bound : (sum + count / 2) * count ≤ (46340 * 65536) * 46340 = mul-le (sum + count / 2) count (46340 * 65536) 46340 (omega (arith, number_below, few)) few in
       omega (arith, bound)
@@ -81,3 +81,11 @@ module _ (sum count : ℕ) (some : 0 < count) (few : count ≤ 46340) (samples :
       let more : (sum + count / 2) * factor ≤ count * 65536 * factor = mul-le (sum + count / 2) factor (count * 65536) factor (omega (arith, number_below)) (omega arith) in
       let turned : count * 65536 * factor ≡ factor * count * 65536 = ap (λ n. n * factor) (mul_comm count 65536) ∙ mul_assoc 65536 count factor ∙ mul_comm 65536 (count * factor) ∙ ap (λ n. n * 65536) (mul_comm count factor) in
       omega (arith, parts, more, turned, few)
+
+-- the mean by the factor
+pub mean_by_factor : (sum count factor : ℕ) → 0 < count → factor ≡ factor_of count → 0 < factor → sum ≤ count * 65535 → (sum + count / 2) * factor / 2 ^ 47 ≡ rounded_mean sum count
+mean_by_factor sum count factor some is more samples =
+    let so = small count factor is more in
+    ap (λ n. (sum + count / 2) * n / 2 ^ 47) so.1
+    ∙ by_factor (sum + count / 2) count some (2 ^ 47) (number_small sum count some so.0 samples)
+    ∙ rounds sum count some

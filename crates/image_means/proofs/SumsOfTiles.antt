@@ -93,7 +93,7 @@ pub record FirstCells {T : Type 0} (what : ℕ → T) (start : ℕ) (old now : L
   pub others : (k : ℕ) → (k < start) ⊎ (start + c ≤ k) → slice_get now k ≡ slice_get old k
 
 -- one cell more
-pub one_cell_more : {T : Type 0} (what : ℕ → T) (start c : ℕ) (old now : List T) (value : T) → FirstCells what start old now c → start + c < length old → value ≡ what c → FirstCells what start old (set now (start + c) value) (c + 1)
+one_cell_more : {T : Type 0} (what : ℕ → T) (start c : ℕ) (old now : List T) (value : T) → FirstCells what start old now c → start + c < length old → value ≡ what c → FirstCells what start old (set now (start + c) value) (c + 1)
 one_cell_more what start c old now value so inside is =
     let here : start + c < length now = omega (arith, inside, so.as_many) in
     record {
@@ -110,6 +110,12 @@ one_cell_more what start c old now value so inside is =
         | inr after ↦ slice_get-set_other now (start + c) k value (λ e. omega (arith, e, after)) ∙ so.others k (inr (omega (arith, after)))
       ];
     }
+
+-- one mean more, of so many columns
+pub one_mean_more : {T C : Type 0} (tally : C → ℕ) (sample : ℕ → T) (size tile lines : ℕ) (sums : List C) (start at columns mean : ℕ) (old now : List T) (value : T) → tile_columns size tile (length sums) at ≡ columns → mean ≡ rounded_mean (pixels_sum tally sums size columns at) (columns * lines) → value ≡ sample mean → start + at < length old
+    → FirstCells (sums_cell tally sample size tile lines sums) start old now at → FirstCells (sums_cell tally sample size tile lines sums) start old (set now (start + at) value) (at + 1)
+one_mean_more tally sample size tile lines sums start at columns mean old now value many is put inside so =
+    one_cell_more (sums_cell tally sample size tile lines sums) start at old now value so inside (put ∙ ap sample (is ∙ ap (λ n. rounded_mean (pixels_sum tally sums size n at) (n * lines)) (sym many)))
 
 -- the cells of the first pixel of a row with one tile
 pub first_pixel : {T : Type 0} (what : ℕ → T) (size tile start width c : ℕ) (old now : List T) → 0 < size → 0 < tile → width ≤ tile * size → c ≡ min size width → FirstCells what start old now c → PutsCells what size tile start width old now

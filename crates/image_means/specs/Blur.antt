@@ -8,6 +8,7 @@ use Rattle.image_shape.specs.declared.shape.Shape.{Shape}
 use Rattle.image_means.specs.Division.{factor_of}
 use Rattle.image_means.specs.Means.{mean_of, rounded_mean, sample_at, sample_cells, sample_in, sample_number, sample_start, cell_number, sum_upto}
 use Rattle.image_means.specs.declared.blur.Blur.{Blur}
+use Rattle.image_means.specs.declared.blur.Place.{Place}
 use Rattle.image_means.specs.declared.means.SampleBytes.{SampleBytes}
 
 -- where the box around a place begins
@@ -57,29 +58,29 @@ pub record PutsSample (bytes : SampleBytes) (at value : ℕ) (old new : List ℕ
   pub each : (c : ℕ) → c < sample_cells bytes → slice_get new (at + c) ≡ Some (cell_number bytes c value)
   pub others : (k : ℕ) → (k < at) ⊎ (at + sample_cells bytes ≤ k) → slice_get new k ≡ slice_get old k
 
--- the sum of the box around the pixel before one: what the box around this one loses is still in it, and what that one gains isn't
-abbrev pub IsSumBefore : List ℕ → ℕ → ℕ → ℕ → ℕ → ℕ → Type 0
-IsSumBefore sums per at across p sum = sum + pixels_upto sums per at (p - (across + 1)) ≡ pixels_upto sums per at (min (length sums / per) (p + across))
+-- the sum of the box around the pixel before one, with so much more: what the box around this one loses is still in it, and what that one gains isn't
+abbrev pub IsSumBefore : List ℕ → ℕ → ℕ → ℕ → ℕ → ℕ → ℕ → Type 0
+IsSumBefore sums per at across p more sum = sum + pixels_upto sums per at (p - (across + 1)) ≡ more + pixels_upto sums per at (min (length sums / per) (p + across))
+
+-- such a sum for each of so many places of a pixel
+pub record AreSumsBefore (place : Place) (sums : List ℕ) (p more count : ℕ) (numbers : List ℕ) : Type 0 where
+  pub each : (i : ℕ) → i < count → IsSumBefore sums place.blur.per (place.at + i) place.blur.across p more (sum_at numbers i)
+
+-- how many samples a box has that no end of the row cuts
+abbrev pub whole_count : Place → ℕ
+whole_count place = (2 * place.blur.across + 1) * place.lines
 
 -- the factors of boxes of so many lines, by their columns
 pub record AreFactors (factors : List ℕ) (lines : ℕ) : Type 0 where
   pub each : (c : ℕ) → 0 < c → c < length factors → slice_index_or factors c 0 ≡ factor_of (c * lines)
 
--- the samples at one place of these pixels are means of boxes, and all others are as they were
-pub record BlursSpan (bytes : SampleBytes) (sums : List ℕ) (per at across lines from end : ℕ) (old new : List ℕ) : Type 0 where
+-- the samples at so many places of these pixels are means of boxes, and all others are as they were
+pub record BlursSpan (place : Place) (count : ℕ) (sums : List ℕ) (from end : ℕ) (old new : List ℕ) : Type 0 where
   pub as_many : length new ≡ length old
-  pub each : (p c : ℕ) → from ≤ p → p < end → c < sample_cells bytes
-      → slice_get new ((p * per + at) * sample_cells bytes + c) ≡ Some (cell_number bytes c (sums_mean sums per across lines p at))
-  pub others : (p a c : ℕ) → a < per → p * per + a < length sums → c < sample_cells bytes → (a ≡ at → (p < from) ⊎ (end ≤ p))
-      → slice_get new ((p * per + a) * sample_cells bytes + c) ≡ slice_get old ((p * per + a) * sample_cells bytes + c)
-
--- the samples at one place of each pixel of a row are means of boxes, and those at the places before it are as they were
-pub record BlursPlace (bytes : SampleBytes) (sums : List ℕ) (per at across lines : ℕ) (old new : List ℕ) : Type 0 where
-  pub as_many : length new ≡ length old
-  pub each : (p c : ℕ) → p * per + at < length sums → c < sample_cells bytes
-      → slice_get new ((p * per + at) * sample_cells bytes + c) ≡ Some (cell_number bytes c (sums_mean sums per across lines p at))
-  pub before : (p a c : ℕ) → a < at → p * per + a < length sums → c < sample_cells bytes
-      → slice_get new ((p * per + a) * sample_cells bytes + c) ≡ slice_get old ((p * per + a) * sample_cells bytes + c)
+  pub each : (p i c : ℕ) → from ≤ p → p < end → i < count → c < sample_cells place.blur.bytes
+      → slice_get new ((p * place.blur.per + (place.at + i)) * sample_cells place.blur.bytes + c) ≡ Some (cell_number place.blur.bytes c (sums_mean sums place.blur.per place.blur.across place.lines p (place.at + i)))
+  pub others : (p a c : ℕ) → a < place.blur.per → p * place.blur.per + a < length sums → c < sample_cells place.blur.bytes → (place.at ≤ a → a < place.at + count → (p < from) ⊎ (end ≤ p))
+      → slice_get new ((p * place.blur.per + a) * sample_cells place.blur.bytes + c) ≡ slice_get old ((p * place.blur.per + a) * sample_cells place.blur.bytes + c)
 
 -- the row's samples are means of boxes
 pub record BlursRow (bytes : SampleBytes) (sums : List ℕ) (per across lines : ℕ) (old new : List ℕ) : Type 0 where
@@ -98,6 +99,11 @@ pub record AddsRows (bytes : SampleBytes) (cells : List ℕ) (stride from upto :
 
 -- ---- what the code needs
 
+-- so many samples are a row's
+pub record AreSamples (bytes : SampleBytes) (row : List ℕ) (count : ℕ) : Type 0 where
+  pub whole : length row ≡ count * sample_cells bytes
+  pub room : length row < 2 ^ 32
+
 -- the sums of so many lines, for a row of so many cells, whose pixels have so many samples
 pub record AreSumsFor (bytes : SampleBytes) (per lines : ℕ) (sums : List ℕ) (width : ℕ) : Type 0 where
   pub whole : length sums ≡ length sums / per * per
@@ -106,6 +112,13 @@ pub record AreSumsFor (bytes : SampleBytes) (per lines : ℕ) (sums : List ℕ) 
   pub some : 0 < lines
   pub few : lines < 2 ^ 17
   pub bounds : (k : ℕ) → k < length sums → sum_at sums k ≤ lines * sample_number bytes 255 255
+
+-- the samples at so many places of each pixel of a row of so many cells, for which these are sums
+pub record CanBlur (place : Place) (count : ℕ) (sums : List ℕ) (width : ℕ) : Type 0 where
+  pub some : 0 < place.blur.per
+  pub places : place.at + count ≤ place.blur.per
+  pub across : place.blur.across < 2 ^ 15
+  pub for_row : AreSumsFor place.blur.bytes place.blur.per place.lines sums width
 
 -- the rows from one up to another, of which each has so many samples
 pub record HaveRows (bytes : SampleBytes) (cells : List ℕ) (s : Shape) (from upto samples : ℕ) : Type 0 where

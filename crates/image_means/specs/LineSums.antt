@@ -28,6 +28,15 @@ abbrev pub sums_cell : {T C : Type 0} → (C → ℕ) → (ℕ → T) → ℕ �
 sums_cell tally sample size tile lines sums x =
     sample (rounded_mean (pixels_sum tally sums size (tile_columns size tile (length sums) x) x) (tile_columns size tile (length sums) x * lines))
 
+-- the sums of so many lines from the start of a tile on, of numbers up to the greatest one
+pub record AreTileSums {C : Type 0} (tally : C → ℕ) (greatest : ℕ) (sums : List C) (lines : ℕ) (tile : Tile) : Type 0 where
+  pub some : 0 < tile.size
+  pub wide : 0 < tile.width
+  pub short : length sums ≤ 512
+  pub within : (k : ℕ) → k < length sums → number_in tally sums k ≤ lines * greatest
+  pub any : 0 < lines
+  pub few : lines < 2 ^ 16
+
 -- fewer than 2^16 lines, inside so many cells, have tiles of at most 512 cells in a row
 pub record HaveNarrowTiles (lines : Lines) (tile : Tile) (count : ℕ) : Type 0 where
   pub inside : AreLines lines count

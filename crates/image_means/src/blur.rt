@@ -8,11 +8,11 @@ ghost use Rattle.image_model.specs.Windows.{window_view, IsInside};
 ghost use Rattle.image_shape.specs.Window.{as_window};
 ghost use Rattle.image_shape.specs.Shape.{shape_height, shape_stride, shape_width, shaped, shaped_grid};
 ghost use Rattle.image_writes.specs.Written.{Becomes};
-ghost use Rattle.image_means.specs.Blur.{blurred, column_upto, pixels_upto, sum_at, AddsSamples, AddsRows, AreFactors, AreSumsFor, BlursPlace, BlursRow, BlursSpan, CanBeBlurred, HaveRows, IsSumBefore, PutsSample};
+ghost use Rattle.image_means.specs.Blur.{blurred, column_upto, pixels_upto, sum_at, AddsSamples, AddsRows, whole_count, AreFactors, AreSamples, AreSumsBefore, AreSumsFor, BlursRow, BlursSpan, CanBeBlurred, CanBlur, HaveRows, PutsSample};
 ghost use Rattle.image_means.specs.Division.{factor_of};
 ghost use Rattle.image_means.specs.Means.{sample_cells, sample_in, sample_number};
 
-use crate::division::{factor_of, mean_by};
+use crate::division::{factor_of, mean_by, quotient_by};
 use crate::means::{SampleBytes, sample_from};
 use image_flips::exact_part;
 use image_ops::fill_cells;
@@ -22,8 +22,7 @@ use std::ops::Range;
 // Each sum of a column gets the sample of this row.
 #[inline(always)]
 fn add_samples(bytes: SampleBytes, row: &[u8], sums: &mut [u32])
-    requires row { length row.now ≡ length sums.old * sample_cells bytes }
-    requires room { length row.now < 2 ^ 32 }
+    requires row { AreSamples bytes row.now (length sums.old) }
     requires bounds { (k : ℕ) → k < length sums.old → sum_at sums.old k
         + sample_in bytes (λ n. n) row.now (k * sample_cells bytes) < 2 ^ 32 }
     ensures { AddsSamples bytes row.now sums.old sums.new }
@@ -47,8 +46,7 @@ fn cells_of(bytes: SampleBytes) -> usize
 // Each sum of a column loses the sample of this row, which is one of its parts.
 #[inline(always)]
 fn take_samples(bytes: SampleBytes, row: &[u8], sums: &mut [u32])
-    requires row { length row.now ≡ length sums.old * sample_cells bytes }
-    requires room { length row.now < 2 ^ 32 }
+    requires row { AreSamples bytes row.now (length sums.old) }
     requires parts { (k : ℕ) → k < length sums.old
         → sample_in bytes (λ n. n) row.now (k * sample_cells bytes) ≤ sum_at sums.old k }
     ensures { AddsSamples bytes row.now sums.new sums.old }
@@ -61,8 +59,7 @@ fn take_samples(bytes: SampleBytes, row: &[u8], sums: &mut [u32])
 
 // Adds a row, with a loop of its own for each kind of sample: it goes by vectors.
 fn add_row(bytes: SampleBytes, row: &[u8], sums: &mut [u32])
-    requires row { length row.now ≡ length sums.old * sample_cells bytes }
-    requires room { length row.now < 2 ^ 32 }
+    requires row { AreSamples bytes row.now (length sums.old) }
     requires bounds { (k : ℕ) → k < length sums.old → sum_at sums.old k
         + sample_in bytes (λ n. n) row.now (k * sample_cells bytes) < 2 ^ 32 }
     ensures { AddsSamples bytes row.now sums.old sums.new }
@@ -76,8 +73,7 @@ fn add_row(bytes: SampleBytes, row: &[u8], sums: &mut [u32])
 
 // Takes a row away in the same way.
 fn take_row(bytes: SampleBytes, row: &[u8], sums: &mut [u32])
-    requires row { length row.now ≡ length sums.old * sample_cells bytes }
-    requires room { length row.now < 2 ^ 32 }
+    requires row { AreSamples bytes row.now (length sums.old) }
     requires parts { (k : ℕ) → k < length sums.old
         → sample_in bytes (λ n. n) row.now (k * sample_cells bytes) ≤ sum_at sums.old k }
     ensures { AddsSamples bytes row.now sums.new sums.old }
@@ -90,6 +86,7 @@ fn take_row(bytes: SampleBytes, row: &[u8], sums: &mut [u32])
 }
 
 // The sum of the samples at one place of each pixel before this one.
+#[inline(always)]
 fn sum_before(sums: &[u32], per: usize, at: usize, end: usize) -> u64
     requires inside { (p : ℕ) → p < end → p * per + at < length sums.now }
     requires room { length sums.now < 2 ^ 32 }
@@ -127,44 +124,22 @@ fn next_box(sums: &[u32], per: usize, at: usize, across: usize, p: usize, before
     sum
 }
 
-// The same for a box that the row's ends don't cut, by numbers of 32 bits. The pixel goes out before
-// the other one comes in.
-#[inline(always)]
-fn next_whole_box(sums: &[u32], per: usize, at: usize, across: usize, p: usize, before: u32) -> u32
-    requires place { at < per }
-    requires whole { length sums.now ≡ length sums.now / per * per }
-    requires room { length sums.now < 2 ^ 32 }
-    requires across { across < 2 ^ 15 }
-    requires first { across < p }
-    requires last { p + across < length sums.now / per }
-    requires before { before + pixels_upto sums.now per at (p - (across + 1))
-        ≡ pixels_upto sums.now per at (min (length sums.now / per) (p + across)) }
-    requires small { pixels_upto sums.now per at (min (length sums.now / per) (p + across + 1))
-        < 2 ^ 32 + pixels_upto sums.now per at (p - across) }
-    ensures { result + pixels_upto sums.now per at (p - across)
-        ≡ pixels_upto sums.now per at (min (length sums.now / per) (p + across + 1)) }
-{
-    let lost = sums[(p - across - 1) * per + at];
-    let gained = sums[(p + across) * per + at];
-    before - lost + gained
-}
-
 // Writes the cells of a sample.
-fn put_sample(bytes: SampleBytes, cells: &mut [u8], at: usize, value: u16)
-    requires inside { at + sample_cells bytes ≤ length cells.old }
+fn put_sample(bytes: SampleBytes, cells: &mut [u8], sample: usize, value: u64)
+    requires inside { (sample + 1) * sample_cells bytes ≤ length cells.old }
     requires room { length cells.old < 2 ^ 63 }
     requires value { value ≤ sample_number bytes 255 255 }
-    ensures { PutsSample bytes at value cells.old cells.new }
+    ensures { PutsSample bytes (sample * sample_cells bytes) value cells.old cells.new }
 {
     match bytes {
-        SampleBytes::One => cells[at] = value as u8,
+        SampleBytes::One => cells[sample] = value as u8,
         SampleBytes::LowFirst => {
-            cells[at] = (value % 256) as u8;
-            cells[at + 1] = (value / 256) as u8;
+            cells[sample * 2] = (value % 256) as u8;
+            cells[sample * 2 + 1] = (value / 256) as u8;
         }
         SampleBytes::HighFirst => {
-            cells[at] = (value / 256) as u8;
-            cells[at + 1] = (value % 256) as u8;
+            cells[sample * 2] = (value / 256) as u8;
+            cells[sample * 2 + 1] = (value % 256) as u8;
         }
     }
 }
@@ -215,7 +190,7 @@ fn factor_for(factors: &[u64], columns: usize, lines: usize) -> u64
     }
 }
 
-// The samples at one place of each pixel of a row, whose boxes have so many lines.
+// The samples at some places of each pixel of a row, from `at` on. Their boxes have so many lines.
 #[derive(Clone, Copy)]
 struct Place {
     blur: Blur,
@@ -223,8 +198,58 @@ struct Place {
     lines: usize,
 }
 
-// The samples at one place of some pixels get the means of boxes that have these sums of columns. The sum
-// of the box before them becomes that of the last one.
+// The sums of the box around a place before the first pixel: what of it is in the row.
+#[inline(always)]
+fn sums_before(place: Place, sums: &[u32], totals: &mut [u64])
+    requires some { 0 < place.blur.per }
+    requires places { place.at + length totals.old ≤ place.blur.per }
+    requires whole { length sums.now ≡ length sums.now / place.blur.per * place.blur.per }
+    requires room { length sums.now < 2 ^ 32 }
+    requires across { place.blur.across < 2 ^ 15 }
+    ensures as_many { length totals.new ≡ length totals.old }
+    ensures sums { AreSumsBefore place sums.now 0 0 (length totals.old) totals.new }
+{
+    let Place { blur, at, .. } = place;
+    let end = blur.across.min(sums.len() / blur.per);
+    for i in 0..totals.len() {
+        totals[i] = sum_before(sums, blur.per, at + i, end);
+    }
+}
+
+// The samples of a pixel get the means of boxes that have these sums of columns. The sums of the boxes
+// around the pixel before become those around this one.
+#[inline(always)]
+fn blur_pixel(
+    place: Place,
+    sums: &[u32],
+    row: &mut [u8],
+    factors: &[u64],
+    p: usize,
+    totals: &mut [u64],
+)
+    requires can { CanBlur place (length totals.old) sums.now (length row.old) }
+    requires factors { AreFactors factors.now place.lines }
+    requires pixel { p < length sums.now / place.blur.per }
+    requires before { AreSumsBefore place sums.now p 0 (length totals.old) totals.old }
+    ensures as_many { length totals.new ≡ length totals.old }
+    ensures sums { AreSumsBefore place sums.now (p + 1) 0 (length totals.old) totals.new }
+    ensures means { BlursSpan place (length totals.old) sums.now p (p + 1) row.old row.new }
+{
+    let Place { blur, at, lines } = place;
+    let Blur { per, across, .. } = blur;
+    let all = sums.len() / per;
+    for i in 0..totals.len() {
+        let k = at + i;
+        let sum = next_box(sums, per, k, across, p, totals[i]);
+        totals[i] = sum;
+        let columns = all.min(p + across + 1) - p.saturating_sub(across);
+        let factor = factor_for(factors, columns, lines);
+        let mean = mean_by(sum, (columns * lines) as u64, factor);
+        put_sample(blur.bytes, row, p * per + k, mean);
+    }
+}
+
+// The samples of some pixels get the means of boxes that have these sums of columns.
 #[inline(always)]
 fn blur_span(
     place: Place,
@@ -232,108 +257,164 @@ fn blur_span(
     row: &mut [u8],
     factors: &[u64],
     pixels: Range<usize>,
-    before: u64,
-) -> u64
-    requires place { place.at < place.blur.per }
-    requires across { place.blur.across < 2 ^ 15 }
-    requires sums { AreSumsFor place.blur.bytes place.blur.per place.lines sums.now (length row.old) }
+    totals: &mut [u64],
+)
+    requires can { CanBlur place (length totals.old) sums.now (length row.old) }
     requires factors { AreFactors factors.now place.lines }
     requires order { pixels.start ≤ pixels.end }
     requires inside { pixels.end ≤ length sums.now / place.blur.per }
-    requires before { IsSumBefore sums.now place.blur.per place.at place.blur.across pixels.start before }
-    ensures sum { IsSumBefore sums.now place.blur.per place.at place.blur.across pixels.end result }
-    ensures means { BlursSpan place.blur.bytes sums.now place.blur.per place.at place.blur.across place.lines
-        pixels.start pixels.end row.old row.new }
+    requires before { AreSumsBefore place sums.now pixels.start 0 (length totals.old) totals.old }
+    ensures as_many { length totals.new ≡ length totals.old }
+    ensures sums { AreSumsBefore place sums.now pixels.end 0 (length totals.old) totals.new }
+    ensures means { BlursSpan place (length totals.old) sums.now pixels.start pixels.end row.old row.new }
 {
-    let Place { blur, at, lines } = place;
-    let per = blur.per;
-    let across = blur.across;
-    let cells = cells_of(blur.bytes);
-    let all = sums.len() / per;
-    let mut sum = before;
     for p in pixels.start..pixels.end {
-        sum = next_box(sums, per, at, across, p, sum);
-        let columns = all.min(p + across + 1) - p.saturating_sub(across);
-        let factor = factor_for(factors, columns, lines);
-        let mean = mean_by(sum, (columns * lines) as u64, factor);
-        put_sample(blur.bytes, row, (p * per + at) * cells, mean as u16);
+        blur_pixel(place, sums, row, factors, p, totals);
     }
-    sum
 }
 
-// The same where the row's ends cut no box: all have one factor, and their sums have 32 bits.
+// The same of a pixel whose box the row's ends don't cut. The factor is that of the box. Each number is
+// a sum with half the count, and has 32 bits.
 #[inline(always)]
-fn blur_whole(
+fn blur_whole_pixel(
+    place: Place,
+    sums: &[u32],
+    row: &mut [u8],
+    factor: u64,
+    p: usize,
+    numbers: &mut [u32],
+)
+    requires can { CanBlur place (length numbers.old) sums.now (length row.old) }
+    requires factor { factor ≡ factor_of (whole_count place) }
+    requires few { 0 < factor }
+    requires first { place.blur.across < p }
+    requires last { p + place.blur.across < length sums.now / place.blur.per }
+    requires before { AreSumsBefore place sums.now p (whole_count place / 2) (length numbers.old)
+        numbers.old }
+    ensures as_many { length numbers.new ≡ length numbers.old }
+    ensures sums { AreSumsBefore place sums.now (p + 1) (whole_count place / 2) (length numbers.old)
+        numbers.new }
+    ensures means { BlursSpan place (length numbers.old) sums.now p (p + 1) row.old row.new }
+{
+    let Place { blur, at, .. } = place;
+    let Blur { per, across, .. } = blur;
+    for i in 0..numbers.len() {
+        let k = at + i;
+        let lost = sums[(p - across - 1) * per + k];
+        let gained = sums[(p + across) * per + k];
+        let number = numbers[i] - lost + gained;
+        numbers[i] = number;
+        let mean = quotient_by(u64::from(number), factor);
+        put_sample(blur.bytes, row, p * per + k, mean);
+    }
+}
+
+// Numbers of 32 bits that are these with so much added.
+#[inline(always)]
+fn add_half(totals: &[u64], half: u64, numbers: &mut [u32])
+    requires as_many { length numbers.old ≡ length totals.now }
+    requires small { (i : ℕ) → i < length totals.now → sum_at totals.now i + half < 2 ^ 32 }
+    ensures as_many { length numbers.new ≡ length numbers.old }
+    ensures each { (i : ℕ) → i < length totals.now
+        → sum_at numbers.new i ≡ sum_at totals.now i + half }
+{
+    for i in 0..totals.len() {
+        numbers[i] = (totals[i] + half) as u32;
+    }
+}
+
+// The sums without the half again.
+#[inline(always)]
+fn take_half(numbers: &[u32], half: u64, totals: &mut [u64])
+    requires as_many { length totals.old ≡ length numbers.now }
+    requires parts { (i : ℕ) → i < length numbers.now → half ≤ sum_at numbers.now i }
+    ensures as_many { length totals.new ≡ length totals.old }
+    ensures each { (i : ℕ) → i < length numbers.now
+        → sum_at totals.new i + half ≡ sum_at numbers.now i }
+{
+    for i in 0..numbers.len() {
+        totals[i] = u64::from(numbers[i]) - half;
+    }
+}
+
+// The same of pixels whose boxes the row's ends don't cut.
+#[inline(always)]
+fn blur_whole<const N: usize>(
     place: Place,
     sums: &[u32],
     row: &mut [u8],
     factor: u64,
     pixels: Range<usize>,
-    before: u64,
-) -> u64
-    requires place { place.at < place.blur.per }
-    requires across { place.blur.across < 2 ^ 15 }
-    requires sums { AreSumsFor place.blur.bytes place.blur.per place.lines sums.now (length row.old) }
-    requires factor { factor ≡ factor_of ((2 * place.blur.across + 1) * place.lines) }
+    totals: &mut [u64],
+)
+    requires small { N ≤ 4 }
+    requires can { CanBlur place N sums.now (length row.old) }
+    requires as_many { length totals.old ≡ N }
+    requires factor { factor ≡ factor_of (whole_count place) }
     requires few { 0 < factor }
     requires order { pixels.start ≤ pixels.end }
     requires first { place.blur.across < pixels.start }
     requires last { pixels.end + place.blur.across ≤ length sums.now / place.blur.per }
-    requires before { IsSumBefore sums.now place.blur.per place.at place.blur.across pixels.start before }
-    ensures sum { IsSumBefore sums.now place.blur.per place.at place.blur.across pixels.end result }
-    ensures means { BlursSpan place.blur.bytes sums.now place.blur.per place.at place.blur.across place.lines
-        pixels.start pixels.end row.old row.new }
+    requires before { AreSumsBefore place sums.now pixels.start 0 N totals.old }
+    ensures as_many { length totals.new ≡ N }
+    ensures sums { AreSumsBefore place sums.now pixels.end 0 N totals.new }
+    ensures means { BlursSpan place N sums.now pixels.start pixels.end row.old row.new }
 {
-    let Place { blur, at, lines } = place;
-    let per = blur.per;
-    let across = blur.across;
-    let cells = cells_of(blur.bytes);
-    let count = ((2 * across + 1) * lines) as u64;
-    let mut sum = before as u32;
+    let half = ((2 * place.blur.across + 1) * place.lines / 2) as u64;
+    let mut numbers = [0u32; N];
+    add_half(totals, half, &mut numbers);
     for p in pixels.start..pixels.end {
-        sum = next_whole_box(sums, per, at, across, p, sum);
-        let mean = mean_by(u64::from(sum), count, factor);
-        put_sample(blur.bytes, row, (p * per + at) * cells, mean as u16);
+        blur_whole_pixel(place, sums, row, factor, p, &mut numbers);
     }
-    u64::from(sum)
+    take_half(&numbers, half, totals);
 }
 
-// The samples at one place of each pixel get the means of boxes that have these sums of columns over
+// The samples at `N` places of each pixel get the means of boxes that have these sums of columns over
 // so many lines.
 #[inline(always)]
-fn blur_place(place: Place, sums: &[u32], row: &mut [u8], factors: &[u64])
-    requires place { place.at < place.blur.per }
-    requires across { place.blur.across < 2 ^ 15 }
-    requires sums { AreSumsFor place.blur.bytes place.blur.per place.lines sums.now (length row.old) }
+fn blur_place<const N: usize>(place: Place, sums: &[u32], row: &mut [u8], factors: &[u64])
+    requires few { N ≤ 4 }
+    requires can { CanBlur place N sums.now (length row.old) }
     requires factors { AreFactors factors.now place.lines }
-    ensures means { BlursPlace place.blur.bytes sums.now place.blur.per place.at place.blur.across place.lines
-        row.old row.new }
+    ensures means { BlursSpan place N sums.now 0 (length sums.now / place.blur.per) row.old row.new }
 {
     let Blur { per, across, .. } = place.blur;
     let all = sums.len() / per;
     let from = all.min(across + 1);
     let end = from.max(all.saturating_sub(across));
     let factor = factor_for(factors, 2 * across + 1, place.lines);
-    let sum = sum_before(sums, per, place.at, all.min(across));
-    let sum = blur_span(place, sums, row, factors, 0..from, sum);
-    let sum = if factor > 0 && from < end {
-        blur_whole(place, sums, row, factor, from..end, sum)
+    let mut totals = [0u64; N];
+    sums_before(place, sums, &mut totals);
+    blur_span(place, sums, row, factors, 0..from, &mut totals);
+    if factor > 0 && from < end {
+        blur_whole::<N>(place, sums, row, factor, from..end, &mut totals);
     } else {
-        blur_span(place, sums, row, factors, from..end, sum)
-    };
-    blur_span(place, sums, row, factors, end..all, sum);
+        blur_span(place, sums, row, factors, from..end, &mut totals);
+    }
+    blur_span(place, sums, row, factors, end..all, &mut totals);
 }
 
-// The row gets the means of boxes that have these sums of columns over so many lines.
+// The row gets the means of boxes that have these sums of columns over so many lines. The numbers of a
+// pixel go by `N`, since a loop over all of them takes less time than one for each.
 #[inline(always)]
-fn blur_places(blur: Blur, sums: &[u32], row: &mut [u8], lines: usize, factors: &[u64])
+fn blur_places<const N: usize>(
+    blur: Blur,
+    sums: &[u32],
+    row: &mut [u8],
+    lines: usize,
+    factors: &[u64],
+)
+    requires some { 0 < N }
+    requires few { N ≤ 4 }
+    requires whole { blur.per ≡ blur.per / N * N }
     requires across { blur.across < 2 ^ 15 }
     requires sums { AreSumsFor blur.bytes blur.per lines sums.now (length row.old) }
     requires factors { AreFactors factors.now lines }
     ensures means { BlursRow blur.bytes sums.now blur.per blur.across lines row.old row.new }
 {
-    for at in 0..blur.per {
-        blur_place(Place { blur, at, lines }, sums, row, factors);
+    for group in 0..blur.per / N {
+        let at = group * N;
+        blur_place::<N>(Place { blur, at, lines }, sums, row, factors);
     }
 }
 
@@ -347,10 +428,10 @@ fn blur_row(blur: Blur, sums: &[u32], row: &mut [u8], lines: usize, factors: &[u
     let bytes = SampleBytes::One;
     let of = |per| Blur { bytes, per, ..blur };
     match (blur.bytes, blur.per) {
-        (SampleBytes::One, 1) => blur_places(of(1), sums, row, lines, factors),
-        (SampleBytes::One, 3) => blur_places(of(3), sums, row, lines, factors),
-        (SampleBytes::One, 4) => blur_places(of(4), sums, row, lines, factors),
-        _ => blur_places(blur, sums, row, lines, factors),
+        (SampleBytes::One, 1) => blur_places::<1>(of(1), sums, row, lines, factors),
+        (SampleBytes::One, 3) => blur_places::<3>(of(3), sums, row, lines, factors),
+        (SampleBytes::One, 4) => blur_places::<4>(of(4), sums, row, lines, factors),
+        _ => blur_places::<1>(blur, sums, row, lines, factors),
     }
 }
 

@@ -1,6 +1,6 @@
 //! Means of samples by a multiplication. The factor is found once for each count.
 
-ghost use Rattle.std.specs.Prelude.{◌≡◌, ◌<◌, ◌≤◌, ◌*◌, ◌^◌};
+ghost use Rattle.std.specs.Prelude.{◌≡◌, ◌<◌, ◌≤◌, ◌*◌, ◌/◌, ◌^◌};
 ghost use Rattle.image_means.specs.Division.{factor_of};
 ghost use Rattle.image_means.specs.Means.{rounded_mean};
 
@@ -22,6 +22,15 @@ pub(crate) fn factor_of(count: u64) -> u64
     }
 }
 
+/// The quotient of a number by a count, by the factor of the count.
+#[inline(always)]
+pub(crate) fn quotient_by(number: u64, factor: u64) -> u64
+    requires { number * factor < 2 ^ 64 }
+    ensures { result ≡ number * factor / 2 ^ 47 }
+{
+    number * factor / ONE
+}
+
 /// The mean of so many samples with this sum, rounded to the nearest number: a half goes up. The
 /// factor is that of the count.
 #[inline(always)]
@@ -34,7 +43,7 @@ pub(crate) fn mean_by(sum: u64, count: u64, factor: u64) -> u64
 {
     let number = sum + count / 2;
     if factor > 0 {
-        number * factor / ONE
+        quotient_by(number, factor)
     } else {
         number / count
     }

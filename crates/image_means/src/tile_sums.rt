@@ -5,7 +5,7 @@
 ghost use Rattle.std.specs.Prelude.{◌≡◌, ◌<◌, ◌≤◌, ◌+◌, ◌-◌, ◌*◌, ◌%◌, ◌^◌, ℕ, length};
 ghost use Rattle.image_model.specs.Tiles.{tile_count};
 ghost use Rattle.image_means.specs.Division.{factor_of};
-ghost use Rattle.image_means.specs.LineSums.{pixels_sum, sums_cell, AddsNumbers, AreLineSums, HaveNarrowTiles};
+ghost use Rattle.image_means.specs.LineSums.{pixels_sum, sums_cell, AddsNumbers, AreLineSums, HaveNarrowTiles, AreTileSums};
 ghost use Rattle.image_means.specs.Means.{number_in, rounded_mean, AreLines, PutsCells, PutsMeans};
 ghost use Rattle.image_means.specs.declared.means.SampleBytes.{SampleBytes};
 
@@ -146,15 +146,9 @@ fn put_tile<T: Sample, C: Tally>(
     tile: Tile,
     factor: u64,
 )
-    requires some { 0 < tile.size }
-    requires wide { 0 < tile.width }
+    requires sums { AreTileSums C.tally T.greatest sums.now lines tile }
     requires whole { length sums.now ≡ tile.width * tile.size }
     requires pixel { tile.size ≤ length sums.now }
-    requires short { length sums.now ≤ 512 }
-    requires within { (k : ℕ) → k < length sums.now
-        → number_in C.tally sums.now k ≤ lines * T.greatest }
-    requires lines { 0 < lines }
-    requires few_lines { lines < 2 ^ 16 }
     requires factor { factor ≡ factor_of (tile.width * lines) }
     requires inside { start + length sums.now ≤ length cells.old }
     ensures { PutsCells (sums_cell C.tally T.sample tile.size tile.width lines sums.now)
@@ -175,14 +169,8 @@ fn put_cut_tile<T: Sample, C: Tally>(
     lines: usize,
     tile: Tile,
 )
-    requires some { 0 < tile.size }
-    requires wide { 0 < tile.width }
+    requires sums { AreTileSums C.tally T.greatest sums.now lines tile }
     requires one { length sums.now ≤ tile.width * tile.size }
-    requires short { length sums.now ≤ 512 }
-    requires within { (k : ℕ) → k < length sums.now
-        → number_in C.tally sums.now k ≤ lines * T.greatest }
-    requires lines { 0 < lines }
-    requires few_lines { lines < 2 ^ 16 }
     requires inside { start + length sums.now ≤ length cells.old }
     ensures { PutsCells (sums_cell C.tally T.sample tile.size tile.width lines sums.now)
         tile.size tile.width start (length sums.now) cells.old cells.new }

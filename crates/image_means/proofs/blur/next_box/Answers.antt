@@ -16,7 +16,7 @@ pub overflow_sub-sum : goal.overflow_sub-sum
 overflow_sub-sum c =
     let a = c.args in
     let pixels : ℕ = length a.sums.now / a.per in
-    let sum = comes_in a.sums.now a.per a.at a.across a.p a.before c.if-p-across.sum c.requires.before (elim c.if-p-across.branch [
+    let sum = comes_in a.sums.now a.per a.at a.across a.p 0 a.before c.if-p-across.sum (omega (arith, c.requires.before)) (elim c.if-p-across.branch [
       | then-p-across w ↦ inl (omega (arith, w.if-p-across.true), omega (arith, w.sum-is, w.from-sum.ensures))
       | else-p-across w ↦ inr (omega (arith, w.if-p-across.false), w.sum-is)
     ]) in
@@ -26,7 +26,7 @@ overflow_sub-sum c =
 pub returns-then-across-p : goal.returns-then-across-p
 returns-then-across-p c =
     let a = c.args in
-    let sum = comes_in a.sums.now a.per a.at a.across a.p a.before c.if-p-across.sum c.requires.before (elim c.if-p-across.branch [
+    let sum = comes_in a.sums.now a.per a.at a.across a.p 0 a.before c.if-p-across.sum (omega (arith, c.requires.before)) (elim c.if-p-across.branch [
       | then-p-across w ↦ inl (omega (arith, w.if-p-across.true), omega (arith, w.sum-is, w.from-sum.ensures))
       | else-p-across w ↦ inr (omega (arith, w.if-p-across.false), w.sum-is)
     ]) in
@@ -35,7 +35,7 @@ returns-then-across-p c =
 pub returns-else-across-p : goal.returns-else-across-p
 returns-else-across-p c =
     let a = c.args in
-    let sum = comes_in a.sums.now a.per a.at a.across a.p a.before c.if-p-across.sum c.requires.before (elim c.if-p-across.branch [
+    let sum = comes_in a.sums.now a.per a.at a.across a.p 0 a.before c.if-p-across.sum (omega (arith, c.requires.before)) (elim c.if-p-across.branch [
       | then-p-across w ↦ inl (omega (arith, w.if-p-across.true), omega (arith, w.sum-is, w.from-sum.ensures))
       | else-p-across w ↦ inr (omega (arith, w.if-p-across.false), w.sum-is)
     ]) in

@@ -1,9 +1,9 @@
 -- A cell of two columns, and one of the last column.
-use Rattle.std.proofs.Common.{◌≡◌, ℕ, ◌+◌, ◌-◌, ◌*◌, ◌/◌, ◌<◌, ◌≤◌, min, List, length, ap, sym, ◌∙◌, arith}
-use Rattle.image_means.specs.LineSums.{pixels_sum, sums_cell}
-use Rattle.image_means.specs.Means.{number_in, rounded_mean, tile_columns}
+use Rattle.std.proofs.Common.{◌≡◌, ℕ, ◌+◌, ◌-◌, ◌*◌, ◌/◌, ◌<◌, ◌≤◌, min, List, length, ap, arith}
+use Rattle.image_means.specs.LineSums.{pixels_sum}
+use Rattle.image_means.specs.Means.{number_in, rounded_mean}
 use Rattle.image_means.proofs.Rounding.{sum_next}
-use Rattle.image_means.proofs.SumsOfTiles.{column_sum, full_columns, one_cell_more}
+use Rattle.image_means.proofs.SumsOfTiles.{column_sum, full_columns, one_mean_more}
 use Rattle.image_means.proofs.tile_sums.put_quads.Given.{Over}
 use Rattle.image_means.proofs.tile_sums.put_quads.Goals as goal
 
@@ -17,17 +17,14 @@ two_pixels tally sums size k = omega (arith, one_pixel tally sums size k, sum_ne
 pub loop-k-preserved : goal.loop-k-preserved
 loop-k-preserved g c =
     let a = c.args in
-    let sums : List g.row.C.Denot = a.sums.now in
-    let k : ℕ = c.loop-k.k in
-    let tally : g.row.C.Denot → ℕ = g.C.Tally.tally in
-    let sample : ℕ → g.row.T.Denot = g.T.Sample.sample in
-    let below : k + a.size < length sums = omega (arith, c.loop-k-test.true, c.loop-k.auto.k-end, c.saturating_sub-pairs.ensures) in
-    let first = column_sum tally sums k c.index-sums-k.result c.sum.result (omega (arith, below)) c.index-sums-k.is c.sum.ensures in
-    let second = column_sum tally sums (k + a.size) c.index-sums-k-in-loop-k.result c.sum-in-loop-k.result below c.index-sums-k-in-loop-k.is c.sum-in-loop-k.ensures in
-    let columns : tile_columns a.size 2 (length sums) k ≡ 2 = full_columns a.size 2 c.requires.some (omega arith) (min (2 * a.size) (length sums - k)) (omega (arith, below)) (omega arith) in
-    let mean : (c.sum.result + c.sum-in-loop-k.result + 2) / 4 ≡ rounded_mean (pixels_sum tally sums a.size 2 k) 4 = omega (arith, first, second, two_pixels tally sums a.size k) in
-    let is : c.sample.result ≡ sums_cell tally sample a.size 2 2 sums k = c.sample.ensures ∙ ap sample (mean ∙ ap (λ n. rounded_mean (pixels_sum tally sums a.size n k) (n * 2)) (sym columns)) in
-    one_cell_more (sums_cell tally sample a.size 2 2 sums) a.start k a.cells.now c.loop-k.cells c.sample.result c.loop-k.invariant (omega (arith, c.requires.inside, below)) is
+    let k = c.loop-k.k in
+    let tally = g.C.Tally.tally in
+    let below : k + a.size < length a.sums.now = omega (arith, c.loop-k-test.true, c.loop-k.auto.k-end, c.saturating_sub-pairs.ensures) in
+    let first = column_sum tally a.sums.now k c.index-sums-k.result c.sum.result (omega (arith, below)) c.index-sums-k.is c.sum.ensures in
+    let second = column_sum tally a.sums.now (k + a.size) c.index-sums-k-in-loop-k.result c.sum-in-loop-k.result below c.index-sums-k-in-loop-k.is c.sum-in-loop-k.ensures in
+    let columns = full_columns a.size 2 c.requires.some (omega arith) (min (2 * a.size) (length a.sums.now - k)) (omega (arith, below)) (omega arith) in
+    let mean : (c.sum.result + c.sum-in-loop-k.result + 2) / 4 ≡ rounded_mean (pixels_sum tally a.sums.now a.size 2 k) 4 = omega (arith, first, second, two_pixels tally a.sums.now a.size k) in
+    one_mean_more tally g.T.Sample.sample a.size 2 2 a.sums.now a.start k 2 _ a.cells.now c.loop-k.cells c.sample.result columns mean c.sample.ensures (omega (arith, c.requires.inside, below)) c.loop-k.invariant
 
 -- the sum of the last column's lines
 last_sum : (g : Over) (c : goal.After-sum-in-loop-last g) → (number_in g.C.Tally.tally c.args.sums.now c.loop-last.last ≡ c.sum-in-loop-last.result) × (c.sum-in-loop-last.result ≤ 2 * g.T.Sample.greatest)
@@ -48,12 +45,9 @@ sample-requires-in-loop-last g c = omega (arith, (last_sum g c).1)
 pub loop-last-preserved : goal.loop-last-preserved
 loop-last-preserved g c =
     let a = c.args in
-    let sums : List g.row.C.Denot = a.sums.now in
-    let k : ℕ = c.loop-last.last in
-    let tally : g.row.C.Denot → ℕ = g.C.Tally.tally in
-    let sample : ℕ → g.row.T.Denot = g.T.Sample.sample in
-    let below : k < length sums = omega (arith, c.loop-last-test.true, c.loop-last.auto.last-end) in
-    let columns : tile_columns a.size 2 (length sums) k ≡ 1 = full_columns a.size 1 c.requires.some (omega arith) (min (2 * a.size) (length sums - k)) (omega (arith, below, c.requires.some)) (omega (arith, c.loop-last.auto.last, c.saturating_sub-pairs.ensures)) in
-    let mean : (c.sum-in-loop-last.result + 1) / 2 ≡ rounded_mean (pixels_sum tally sums a.size 1 k) 2 = omega (arith, one_pixel tally sums a.size k, column_sum tally sums k c.index-sums-last.result c.sum-in-loop-last.result below c.index-sums-last.is c.sum-in-loop-last.ensures) in
-    let is : c.sample-in-loop-last.result ≡ sums_cell tally sample a.size 2 2 sums k = c.sample-in-loop-last.ensures ∙ ap sample (mean ∙ ap (λ n. rounded_mean (pixels_sum tally sums a.size n k) (n * 2)) (sym columns)) in
-    one_cell_more (sums_cell tally sample a.size 2 2 sums) a.start k a.cells.now c.loop-last.cells c.sample-in-loop-last.result c.loop-last.invariant (omega (arith, c.requires.inside, below)) is
+    let k = c.loop-last.last in
+    let below : k < length a.sums.now = omega (arith, c.loop-last-test.true, c.loop-last.auto.last-end) in
+    let sum = column_sum g.C.Tally.tally a.sums.now k c.index-sums-last.result c.sum-in-loop-last.result below c.index-sums-last.is c.sum-in-loop-last.ensures in
+    let columns = full_columns a.size 1 c.requires.some (omega arith) (min (2 * a.size) (length a.sums.now - k)) (omega (arith, below, c.requires.some)) (omega (arith, c.loop-last.auto.last, c.saturating_sub-pairs.ensures)) in
+    let mean : (c.sum-in-loop-last.result + 1) / 2 ≡ rounded_mean (pixels_sum g.C.Tally.tally a.sums.now a.size 1 k) 2 = omega (arith, one_pixel g.C.Tally.tally a.sums.now a.size k, sum) in
+    one_mean_more g.C.Tally.tally g.T.Sample.sample a.size 2 2 a.sums.now a.start k 1 _ a.cells.now c.loop-last.cells c.sample-in-loop-last.result columns mean c.sample-in-loop-last.ensures (omega (arith, c.requires.inside, below)) c.loop-last.invariant
