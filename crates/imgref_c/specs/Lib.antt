@@ -2,4 +2,5 @@ pub mod Turns
 pub mod Status
 pub mod Numbering
 pub mod Calls
+pub mod Claims
 pub mod Words

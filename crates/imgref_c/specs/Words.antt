@@ -20,6 +20,8 @@ pub use Rattle.imgref.specs.Words.{area_at}
 pub use Rattle.image_regions.specs.Levels.{equalized}
 pub use Rattle.image_shape.specs.Window.{as_window}
 pub use Rattle.imgref_c.specs.Turns.{is_turn, turn_by}
-pub use Rattle.imgref_c.specs.Status.{code, is_image as passes, IsImage, image_status, place_status, window_status, copy_status, move_status, pair_status, integral_status, flood_status, labels_status, mosaic_status, is_pixel_image, IsPixelImage, in_cells, pixel_window_status, pixel_mosaic_status, oriented_status, oriented_in_place_status, turn_status, turn_in_place_status, rows_status, tiles_status, tile_status}
+pub use Rattle.imgref_c.specs.declared.status.Status.TheVariants.{NoTurn}
+pub use Rattle.imgref_c.specs.Status.{code, first, is_image as passes, IsImage, image_status, place_status, window_status, copy_status, move_status, pair_status, integral_status, flood_status, labels_status, mosaic_status, is_pixel_image, IsPixelImage, in_cells, pixel_window_status, pixel_mosaic_status, oriented_status, oriented_in_place_status, turn_status, turn_in_place_status, rows_status, tiles_status, tile_status}
 pub use Rattle.imgref_c.specs.Numbering.{Numbered}
+pub use Rattle.imgref_c.specs.Claims.{window_status_of, mosaic_status_of, move_status_of, seen_in, WritesIn, part_status, tiled_status, into_status, in_place_status, shown_by, ChangesPart, WritesAll, IsPart}
 pub use Rattle.imgref_c.specs.Calls.{seen, Writes, Packs, Finds, Gives, Fills, Labels, IsBox}

@@ -5,7 +5,6 @@ ghost use Rattle.std.specs.Prelude.{◌≡◌, ◌*◌, length};
 ghost use Rattle.imgref_c.specs.Words.{as_window, code, in_cells, pixel_window_status, seen, times_shown, Gives};
 
 use crate::images::ClaimedShape;
-use crate::pixels::pixel_window;
 use crate::status::Status;
 use image_flips::padded_part;
 use image_ops::count_value;
@@ -25,8 +24,8 @@ pub(crate) fn count<T: PartialEq>(
         (seen (length value.now * claimed.width) claimed.height claimed.stride cells.now
         (in_cells (length value.now) (as_window window)))) }
 {
-    let channels = value.len();
-    let (shape, part) = match pixel_window(cells.len(), claimed, channels, window) {
+    let claimed = claimed.of_pixels(value.len());
+    let (shape, part) = match claimed.part(cells.len(), window) {
         Ok(parts) => parts,
         Err(status) => return status,
     };

@@ -3,6 +3,7 @@
 ghost use Rattle.std.specs.Prelude.{◌≡◌, ◌↔◌, ◌≤◌, ◌<◌, ◌^◌, IsTrue};
 ghost use Rattle.imgref_c.specs.Words.{as_window, code, exact_stretch, passes, window_status, Finds, IsImage, IsInside};
 
+use crate::pixels::ClaimedPixels;
 use crate::status::Status;
 use image_shape::{Shape, Window};
 
@@ -37,6 +38,19 @@ impl ClaimedShape {
         ensures stride { result.stride ≡ self.stride }
     {
         ClaimedShape { width, ..self }
+    }
+
+    /// The same, counted in pixels of so many cells.
+    pub(crate) fn of_pixels(self, channels: usize) -> ClaimedPixels
+        ensures width { result.shape.width ≡ self.width }
+        ensures height { result.shape.height ≡ self.height }
+        ensures stride { result.shape.stride ≡ self.stride }
+        ensures channels { result.channels ≡ channels }
+    {
+        ClaimedPixels {
+            shape: self,
+            channels,
+        }
     }
 
     /// Whether so many cells are an image of this size and stride.

@@ -4,10 +4,10 @@
 //! of such numbers means nothing.
 
 ghost use Rattle.std.specs.Prelude.{◌≡◌, ◌*◌, ◌<◌, ◌^◌, length};
-ghost use Rattle.imgref_c.specs.Words.{as_window, code, in_cells, means_of, means_by, pixel_mosaic_status, seen, Writes};
+ghost use Rattle.imgref_c.specs.Words.{as_window, code, in_cells, means_of, means_by, pixel_mosaic_status, seen, tiled_status, ChangesPart, Writes};
 
 use crate::images::ClaimedShape;
-use crate::pixels::pixel_window;
+use crate::pixels::ClaimedPixels;
 use crate::status::Status;
 use image_means::{Sample, mean_window};
 use image_shape::Window;
@@ -15,28 +15,24 @@ use image_shape::Window;
 // Each tile of the window, from its corner on, gets the mean of its pixels.
 fn mosaic_means<T: Sample>(
     cells: &mut [T],
-    claimed: ClaimedShape,
-    channels: usize,
+    claimed: ClaimedPixels,
     window: Window,
-    tile_width: usize,
-    tile_height: usize,
+    tile: (usize, usize),
 ) -> Status
     requires room { length cells.old < 2 ^ 63 }
-    ensures status { result ≡ pixel_mosaic_status channels (length cells.old) claimed.width
-        claimed.height claimed.stride (as_window window) tile_width tile_height }
-    ensures writes { Writes (code result) (channels * claimed.width) claimed.height claimed.stride
-        cells.old cells.new (channels * window.left) window.top
-        (means_by T.number T.sample channels tile_width tile_height (seen (channels * claimed.width)
-        claimed.height claimed.stride cells.old (in_cells channels (as_window window)))) }
+    ensures status { result
+        ≡ tiled_status claimed (length cells.old) (as_window window) tile.0 tile.1 }
+    ensures writes { ChangesPart result claimed cells.old cells.new (as_window window)
+        (means_by T.number T.sample claimed.channels tile.0 tile.1) }
 {
-    let (shape, part) = match pixel_window(cells.len(), claimed, channels, window) {
+    let (shape, part) = match claimed.part(cells.len(), window) {
         Ok(parts) => parts,
         Err(status) => return status,
     };
-    if tile_width == 0 || tile_height == 0 {
+    if tile.0 == 0 || tile.1 == 0 {
         return Status::NoTile;
     }
-    mean_window(cells, shape, part, channels, tile_width, tile_height);
+    mean_window(cells, shape, part, claimed.channels, tile.0, tile.1);
     Status::Done
 }
 
@@ -60,8 +56,8 @@ pub extern "C" fn imgref_u8_mosaic_means(
         (channels * window.left) window.top (means_of channels tile_width tile_height
         (seen (channels * width) height stride cells.old (in_cells channels (as_window window)))) }
 {
-    let claimed = ClaimedShape::new(width, height, stride);
-    mosaic_means::<u8>(cells, claimed, channels, window, tile_width, tile_height).code()
+    let claimed = ClaimedShape::new(width, height, stride).of_pixels(channels);
+    mosaic_means::<u8>(cells, claimed, window, (tile_width, tile_height)).code()
 }
 
 /// The same for cells of two bytes.
@@ -82,6 +78,6 @@ pub extern "C" fn imgref_u16_mosaic_means(
         (channels * window.left) window.top (means_of channels tile_width tile_height
         (seen (channels * width) height stride cells.old (in_cells channels (as_window window)))) }
 {
-    let claimed = ClaimedShape::new(width, height, stride);
-    mosaic_means::<u16>(cells, claimed, channels, window, tile_width, tile_height).code()
+    let claimed = ClaimedShape::new(width, height, stride).of_pixels(channels);
+    mosaic_means::<u16>(cells, claimed, window, (tile_width, tile_height)).code()
 }

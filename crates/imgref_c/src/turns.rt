@@ -1,12 +1,12 @@
 //! Images that are turned or transposed, into others or in place. A pixel has 1 to 4 cells, next to one
 //! another in a row.
 
-ghost use Rattle.std.specs.Prelude.{◌≡◌, ◌*◌, length};
+ghost use Rattle.std.specs.Prelude.{◌≡◌, length};
 ghost use Rattle.image_turns.specs.Oriented.{oriented_width, oriented_height};
-ghost use Rattle.imgref_c.specs.Words.{code, grid_of, is_turn, layout, oriented, oriented_in_place_status, oriented_status, turn_by, turn_in_place_status, turn_status, Writes};
+ghost use Rattle.imgref_c.specs.Words.{first, in_place_status, into_status, is_turn, oriented, shown_by, turn_by, NoTurn, WritesAll};
 
 use crate::images::ClaimedShape;
-use crate::pixels::are_pixels;
+use crate::pixels::ClaimedPixels;
 use crate::status::Status;
 use image_turns::{Orientation, orient_in_place, orient_pixels};
 
@@ -42,37 +42,34 @@ fn oriented_size(orientation: Orientation, width: usize, height: usize) -> (usiz
 // Every pixel becomes the pixel of the source that its place gets.
 pub(crate) fn orient_into<T: Copy>(
     cells: &mut [T],
-    claimed: ClaimedShape,
+    claimed: ClaimedPixels,
     source: &[T],
     claimed_source: ClaimedShape,
-    channels: usize,
     orientation: Orientation,
 ) -> Status
-    ensures status { result ≡ oriented_status channels orientation (length cells.old)
-        claimed.width claimed.height claimed.stride (length source.now) claimed_source.width
-        claimed_source.height claimed_source.stride }
-    ensures writes { Writes (code result) (channels * claimed.width) claimed.height
-        claimed.stride cells.old cells.new 0 0 (oriented channels orientation (grid_of (layout
-        source.now (channels * claimed_source.width) claimed_source.height claimed_source.stride))) }
+    ensures status { result ≡ into_status claimed orientation (length cells.old) claimed_source
+        (length source.now) }
+    ensures writes { WritesAll result claimed cells.old cells.new (oriented claimed.channels
+        orientation (shown_by claimed.channels claimed_source source.now)) }
 {
-    if !are_pixels(cells.len(), claimed, channels)
-        || !are_pixels(source.len(), claimed_source, channels)
-    {
+    let origin = ClaimedPixels {
+        shape: claimed_source,
+        ..claimed
+    };
+    if !claimed.is_image(cells.len()) || !origin.is_image(source.len()) {
         return Status::NotAnImage;
     }
     let columns = claimed_source.width;
     let (width, height) = oriented_size(orientation, columns, claimed_source.height);
-    if claimed.width != width || claimed.height != height {
+    if claimed.shape.width != width || claimed.shape.height != height {
         return Status::SizesDiffer;
     }
-    let shape = claimed.with_width(channels * claimed.width).shape();
-    let source_shape = claimed_source.with_width(channels * columns).shape();
     orient_pixels(
         cells,
-        shape,
+        claimed.cells(),
         source,
-        source_shape,
-        channels,
+        origin.cells(),
+        claimed.channels,
         columns,
         orientation,
     );
@@ -82,74 +79,60 @@ pub(crate) fn orient_into<T: Copy>(
 // Every pixel becomes that of the source turned by so many quarters.
 pub(crate) fn turn_into<T: Copy>(
     cells: &mut [T],
-    claimed: ClaimedShape,
+    claimed: ClaimedPixels,
     source: &[T],
     claimed_source: ClaimedShape,
-    channels: usize,
     quarters: u32,
 ) -> Status
-    ensures status { result ≡ turn_status channels quarters (length cells.old) claimed.width
-        claimed.height claimed.stride (length source.now) claimed_source.width
-        claimed_source.height claimed_source.stride }
-    ensures writes { Writes (code result) (channels * claimed.width) claimed.height
-        claimed.stride cells.old cells.new 0 0 (oriented channels (turn_by quarters) (grid_of (layout
-        source.now (channels * claimed_source.width) claimed_source.height claimed_source.stride))) }
+    ensures status { result ≡ first (is_turn quarters) NoTurn (into_status claimed
+        (turn_by quarters) (length cells.old) claimed_source (length source.now)) }
+    ensures writes { WritesAll result claimed cells.old cells.new (oriented claimed.channels
+        (turn_by quarters) (shown_by claimed.channels claimed_source source.now)) }
 {
     if !is_turn(quarters) {
         return Status::NoTurn;
     }
-    orient_into(
-        cells,
-        claimed,
-        source,
-        claimed_source,
-        channels,
-        turn_by(quarters),
-    )
+    orient_into(cells, claimed, source, claimed_source, turn_by(quarters))
 }
 
 // Every pixel goes to its place in the same image, which has to be a square unless it is turned by a
 // half.
 pub(crate) fn orient<T: Copy>(
     cells: &mut [T],
-    claimed: ClaimedShape,
-    channels: usize,
+    claimed: ClaimedPixels,
     orientation: Orientation,
 ) -> Status
-    ensures status { result ≡ oriented_in_place_status channels orientation (length cells.old)
-        claimed.width claimed.height claimed.stride }
-    ensures writes { Writes (code result) (channels * claimed.width) claimed.height
-        claimed.stride cells.old cells.new 0 0 (oriented channels orientation (grid_of (layout
-        cells.old (channels * claimed.width) claimed.height claimed.stride))) }
+    ensures status { result ≡ in_place_status claimed orientation (length cells.old) }
+    ensures writes { WritesAll result claimed cells.old cells.new (oriented claimed.channels
+        orientation (shown_by claimed.channels claimed.shape cells.old)) }
 {
-    if !are_pixels(cells.len(), claimed, channels) {
+    if !claimed.is_image(cells.len()) {
         return Status::NotAnImage;
     }
-    let columns = claimed.width;
-    let (width, _) = oriented_size(orientation, columns, claimed.height);
+    let columns = claimed.shape.width;
+    let (width, _) = oriented_size(orientation, columns, claimed.shape.height);
     if columns != width {
         return Status::SizesDiffer;
     }
-    let shape = claimed.with_width(channels * columns).shape();
-    orient_in_place(cells, shape, channels, columns, orientation);
+    orient_in_place(
+        cells,
+        claimed.cells(),
+        claimed.channels,
+        columns,
+        orientation,
+    );
     Status::Done
 }
 
 // The image is turned by so many quarters in place.
-pub(crate) fn turn<T: Copy>(
-    cells: &mut [T],
-    claimed: ClaimedShape,
-    channels: usize,
-    quarters: u32,
-) -> Status
-    ensures status { result ≡ turn_in_place_status channels quarters (length cells.old)
-        claimed.width claimed.height claimed.stride }
-    ensures writes { Writes (code result) (channels * claimed.width) claimed.height
-        claimed.stride cells.old cells.new 0 0 (oriented channels (turn_by quarters) (grid_of (layout
-        cells.old (channels * claimed.width) claimed.height claimed.stride))) }
+pub(crate) fn turn<T: Copy>(cells: &mut [T], claimed: ClaimedPixels, quarters: u32) -> Status
+    ensures status { result ≡ first (is_turn quarters) NoTurn (in_place_status claimed
+        (turn_by quarters) (length cells.old)) }
+    ensures writes { WritesAll result claimed cells.old cells.new (oriented claimed.channels
+        (turn_by quarters) (shown_by claimed.channels claimed.shape cells.old)) }
 {
     if !is_turn(quarters) {
         return Status::NoTurn;
     }
-    orient(cells, claimed, channels, turn_by(quarters))
+    orient(cells, claimed, turn_by(quarters))
 }

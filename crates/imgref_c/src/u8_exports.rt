@@ -128,8 +128,8 @@ pub extern "C" fn imgref_u8_mosaic_pixels(
         (channels * window.left) window.top (mosaic_by channels tile_width tile_height
         (seen (channels * width) height stride cells.old (in_cells channels (as_window window)))) }
 {
-    let claimed = ClaimedShape::new(width, height, stride);
-    pixels::mosaic_pixels(cells, claimed, channels, window, tile_width, tile_height).code()
+    let claimed = ClaimedShape::new(width, height, stride).of_pixels(channels);
+    pixels::mosaic_pixels(cells, claimed, window, (tile_width, tile_height)).code()
 }
 
 /// The window `to` gets the pixels that the window `from` had; the two may overlap.
@@ -217,9 +217,9 @@ pub extern "C" fn imgref_u8_turn_into(
         (oriented channels (turn_by quarters) (grid_of (layout source.now
         (channels * source_width) source_height source_stride))) }
 {
-    let claimed = ClaimedShape::new(width, height, stride);
+    let claimed = ClaimedShape::new(width, height, stride).of_pixels(channels);
     let claimed_source = ClaimedShape::new(source_width, source_height, source_stride);
-    turns::turn_into(cells, claimed, source, claimed_source, channels, quarters).code()
+    turns::turn_into(cells, claimed, source, claimed_source, quarters).code()
 }
 
 /// Every pixel becomes the pixel of `source` in whose row it is a column. A pixel has 1 to 4 cells,
@@ -242,18 +242,10 @@ pub extern "C" fn imgref_u8_transpose_into(
         (oriented channels Transposed (grid_of (layout source.now (channels * source_width)
         source_height source_stride))) }
 {
-    let claimed = ClaimedShape::new(width, height, stride);
+    let claimed = ClaimedShape::new(width, height, stride).of_pixels(channels);
     let claimed_source = ClaimedShape::new(source_width, source_height, source_stride);
     let orientation = Orientation::Transposed;
-    turns::orient_into(
-        cells,
-        claimed,
-        source,
-        claimed_source,
-        channels,
-        orientation,
-    )
-    .code()
+    turns::orient_into(cells, claimed, source, claimed_source, orientation).code()
 }
 
 /// The image is turned clockwise by so many quarters, 1 to 3, in place. It has to be a square unless it
@@ -274,8 +266,8 @@ pub extern "C" fn imgref_u8_turn(
         (oriented channels (turn_by quarters) (grid_of (layout cells.old (channels * width) height
         stride))) }
 {
-    let claimed = ClaimedShape::new(width, height, stride);
-    turns::turn(cells, claimed, channels, quarters).code()
+    let claimed = ClaimedShape::new(width, height, stride).of_pixels(channels);
+    turns::turn(cells, claimed, quarters).code()
 }
 
 /// Columns become rows, and rows columns, in place. The image has to be a square. A pixel has 1 to 4
@@ -294,8 +286,8 @@ pub extern "C" fn imgref_u8_transpose(
         (oriented channels Transposed (grid_of (layout cells.old (channels * width) height
         stride))) }
 {
-    let claimed = ClaimedShape::new(width, height, stride);
-    turns::orient(cells, claimed, channels, Orientation::Transposed).code()
+    let claimed = ClaimedShape::new(width, height, stride).of_pixels(channels);
+    turns::orient(cells, claimed, Orientation::Transposed).code()
 }
 
 /// The first row of the window changes places with its last, and so on. A pixel has 1 to 4 cells, next
@@ -315,8 +307,8 @@ pub extern "C" fn imgref_u8_flip_rows(
         (channels * window.left) window.top (flipped (seen (channels * width) height stride
         cells.old (in_cells channels (as_window window)))) }
 {
-    let claimed = ClaimedShape::new(width, height, stride);
-    flips::flip_rows(cells, claimed, channels, window).code()
+    let claimed = ClaimedShape::new(width, height, stride).of_pixels(channels);
+    flips::flip_rows(cells, claimed, window).code()
 }
 
 /// In each row of the window the first pixel changes places with the last, and so on. A pixel has 1 to 4
@@ -337,8 +329,8 @@ pub extern "C" fn imgref_u8_flip_columns(
         (channels * window.left) window.top (mirrored_by channels (seen (channels * width) height
         stride cells.old (in_cells channels (as_window window)))) }
 {
-    let claimed = ClaimedShape::new(width, height, stride);
-    flips::flip_columns(cells, claimed, channels, window).code()
+    let claimed = ClaimedShape::new(width, height, stride).of_pixels(channels);
+    flips::flip_columns(cells, claimed, window).code()
 }
 
 /// Rows `y` and `z` change places. A pixel has 1 to 4 cells, next to one another in a row. Sizes are
@@ -357,8 +349,8 @@ pub extern "C" fn imgref_u8_swap_rows(
     ensures writes { Writes result (channels * width) height stride cells.old cells.new 0 0
         (rows_swapped y z (grid_of (layout cells.old (channels * width) height stride))) }
 {
-    let claimed = ClaimedShape::new(width, height, stride);
-    flips::swap_rows(cells, claimed, channels, y, z).code()
+    let claimed = ClaimedShape::new(width, height, stride).of_pixels(channels);
+    flips::swap_rows(cells, claimed, y, z).code()
 }
 
 /// Writes to `equal` whether two images have the same size and equal pixels at every place.

@@ -1,7 +1,7 @@
 //! Calls on a window of an image: it is filled, turned into a mosaic, or moved.
 
 ghost use Rattle.std.specs.Prelude.{◌≡◌, length};
-ghost use Rattle.imgref_c.specs.Words.{as_window, code, mosaic_of, mosaic_status, move_status, seen, uniform, window_status, Writes};
+ghost use Rattle.imgref_c.specs.Words.{as_window, mosaic_of, mosaic_status_of, move_status_of, seen_in, uniform, window_status_of, WritesIn};
 
 use crate::images::ClaimedShape;
 use crate::status::Status;
@@ -16,10 +16,9 @@ pub(crate) fn fill_window<T: Copy>(
     window: Window,
     value: T,
 ) -> Status
-    ensures status { result ≡ window_status (length cells.old) claimed.width claimed.height
-        claimed.stride (as_window window) }
-    ensures writes { Writes (code result) claimed.width claimed.height claimed.stride cells.old
-        cells.new window.left window.top (uniform window.width window.height value) }
+    ensures status { result ≡ window_status_of claimed (length cells.old) (as_window window) }
+    ensures writes { WritesIn result claimed cells.old cells.new (as_window window)
+        (uniform window.width window.height value) }
 {
     if !claimed.is_image(cells.len()) {
         return Status::NotAnImage;
@@ -40,11 +39,10 @@ pub(crate) fn mosaic<T: Copy>(
     tile_width: usize,
     tile_height: usize,
 ) -> Status
-    ensures status { result ≡ mosaic_status (length cells.old) claimed.width claimed.height
-        claimed.stride (as_window window) tile_width tile_height }
-    ensures writes { Writes (code result) claimed.width claimed.height claimed.stride
-        cells.old cells.new window.left window.top (mosaic_of tile_width tile_height
-        (seen claimed.width claimed.height claimed.stride cells.old (as_window window))) }
+    ensures status { result ≡ mosaic_status_of claimed (length cells.old) (as_window window)
+        tile_width tile_height }
+    ensures writes { WritesIn result claimed cells.old cells.new (as_window window)
+        (mosaic_of tile_width tile_height (seen_in claimed cells.old (as_window window))) }
 {
     if !claimed.is_image(cells.len()) {
         return Status::NotAnImage;
@@ -67,11 +65,10 @@ pub(crate) fn move_window<T: Copy>(
     from: Window,
     to: Window,
 ) -> Status
-    ensures status { result ≡ move_status (length cells.old) claimed.width claimed.height
-        claimed.stride (as_window from) (as_window to) }
-    ensures writes { Writes (code result) claimed.width claimed.height
-        claimed.stride cells.old cells.new to.left to.top
-        (seen claimed.width claimed.height claimed.stride cells.old (as_window from)) }
+    ensures status { result
+        ≡ move_status_of claimed (length cells.old) (as_window from) (as_window to) }
+    ensures writes { WritesIn result claimed cells.old cells.new (as_window to)
+        (seen_in claimed cells.old (as_window from)) }
 {
     if !claimed.is_image(cells.len()) {
         return Status::NotAnImage;

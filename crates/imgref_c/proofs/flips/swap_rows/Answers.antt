@@ -10,10 +10,10 @@ pub returns-clause-writes : goal.returns-clause-writes
 unfolding rows_swapped grid_of
 returns-clause-writes g c =
     let a = c.args in
-    let s = c.shape-shape.result in
-    let wide = c.shape-shape.ensures.width ∙ c.with_width.ensures.width in
-    let high = c.shape-shape.ensures.height ∙ c.with_width.ensures.height in
-    let far = c.shape-shape.ensures.stride ∙ c.with_width.ensures.stride in
+    let s = c.cells.result in
+    let wide = c.cells.ensures.width in
+    let high = c.cells.ensures.height in
+    let far = c.cells.ensures.stride in
     all_written a.cells.now c.swap_rows.new.cells s wide high far _ _ refl
     (c.swap_rows.ensures.grid ∙ ap (λ (l : Layout g.row.T.Denot). rows_swapped a.y a.z (grid_of l)) (shaped_as a.cells.now s wide high far))
     c.swap_rows.ensures.outside

@@ -1,7 +1,7 @@
 -- All pixels are written.
-use Rattle.std.proofs.Common.{◌≡◌, refl, ap, ◌∙◌}
+use Rattle.std.proofs.Common.{refl, ap, ◌∙◌}
 use Rattle.image_model.specs.Grid.{grid_of}
-use Rattle.image_model.specs.Layout.{Layout, layout}
+use Rattle.image_model.specs.Layout.{layout}
 use Rattle.image_model.specs.Mapped.{mapped}
 use Rattle.image_regions.specs.Levels.{equalized}
 use Rattle.imgref_c.proofs.Whole.{shaped_as, all_written}
