@@ -4,18 +4,19 @@ use Rattle.std.proofs.lemmas.Bool.{cond-true, cond-false, true≢false}
 use Rattle.std.proofs.lemmas.Bool.Decides.{nat_tests}
 use Rattle.image_model.specs.Layout.{Layout, pixel}
 use Rattle.image_model.specs.Grid.{grid, grid_of, covers, patch, uniform}
+use Rattle.image_model.proofs.Places.{outside_refl, outside_trans}
 use Rattle.image_model.proofs.Grids.{covers_decides, at_place, pixel_at, same_grids, is_patch}
 use Rattle.imgref_examples.specs.Stripes.{striped, striped_upto}
 
 -- no row is striped yet
-pub striped_none : (l : Layout ℕ) → striped_upto 0 (grid_of l) ≡ grid_of l
+pub striped_none : (l : Layout ℕ) → grid_of l ≡ striped_upto 0 (grid_of l)
 unfolding grid_of striped_upto
-striped_none l = same_grids l.width l.height _ (pixel l) (λ u v column line. cond-false (nat_lt v 0) _ _ (grind (arith, nat_tests)) ∙ pixel_at l u v column line)
+striped_none l = same_grids l.width l.height (pixel l) _ (λ u v column line. sym (cond-false (nat_lt v 0) _ _ (grind (arith, nat_tests)) ∙ pixel_at l u v column line))
 
 -- all rows are
-pub striped_all : (l : Layout ℕ) → striped_upto l.height (grid_of l) ≡ striped l.width l.height
+pub striped_all : (n : ℕ) (l : Layout ℕ) → n ≡ l.height → striped_upto n (grid_of l) ≡ striped l.width l.height
 unfolding grid_of striped striped_upto
-striped_all l = same_grids l.width l.height _ _ (λ u v column line. cond-true (nat_lt v l.height) _ _ (grind (arith, nat_tests)))
+striped_all n l done = same_grids l.width l.height _ _ (λ u v column line. cond-true (nat_lt v n) _ _ (grind (arith, nat_tests, done)))
 
 -- what an image whose first n rows are striped shows
 upto_at : (n : ℕ) (l k : Layout ℕ) → grid_of k ≡ striped_upto n (grid_of l) → (u v : ℕ) → u < l.width → v < l.height → (grid_of k).pixel u v ≡ (if nat_lt v n then Some (v % 2) else (grid_of l).pixel u v)
@@ -47,3 +48,11 @@ striped_more n l k e wide high below =
         true≢false (sym hit ∙ miss) in
         let same : nat_lt v (n + 1) ≡ nat_lt v n = grind (arith, nat_tests, other) in
         ap (λ b. if b then Some (v % 2) else (grid_of l).pixel u v) same ∙ sym (upto_at n l k e u v (omega (arith, wide)) (omega (arith, high)))
+
+-- the same where the width and the value are known by their numbers
+pub row_striped : (n w q : ℕ) (l k : Layout ℕ) → grid_of k ≡ striped_upto n (grid_of l) → w ≡ k.width → q ≡ n % 2 → k.width ≡ l.width → k.height ≡ l.height → n < l.height
+    → patch (grid_of k) 0 n (uniform w 1 q) ≡ striped_upto (n + 1) (grid_of l)
+row_striped n w q l k e across is wide high below = (λ i. patch (grid_of k) 0 n (uniform (across i) 1 (is i))) ∙ striped_more n l k e wide high below
+
+-- what a proof of the loop goes by
+pub ruleset striped_rows = (outside_refl, outside_trans, striped_none, row_striped, striped_all)

@@ -45,6 +45,7 @@ pub fn three_by_index(image: &mut ImgVec<u8>, value: u8)
 }
 
 /// Each row, one after the other: its pixels become 0 or 1.
+#[tactic(auto, using(crate::proofs::StripedRows::striped_rows))]
 pub fn stripes(image: &mut ImgVec<u8>)
     requires { Fits (vec_layout image.old) }
     ensures grid { vec_grid image.new ≡ striped (width_of image.old) (height_of image.old) }

@@ -1,7 +1,7 @@
 //! Thinning of shapes by two passes: one from the right and from below, one from the left and from
 //! above. (The passes of Zhang and Suen.)
 
-ghost use Rattle.std.specs.Prelude.{◌≡◌, ◌<◌, ◌≤◌, ◌^◌, IfOk};
+ghost use Rattle.std.specs.Prelude.{◌≡◌, ◌<◌, ◌≤◌, ◌^◌, if◌then◌else◌, IfOk};
 ghost use Rattle.imgref.specs.Words.{Fits, height_of, ref_grid, ref_layout, vec_grid, vec_layout, width_of};
 ghost use Rattle.imgref_examples.specs.Thinned.{begins, goes, ink, neighbours, north_west, rise, south_east, thinned, thinner};
 
@@ -71,28 +71,23 @@ fn count_begins(image: ImgRef<'_, u8>, x: usize, y: usize) -> u8
         + rise_of(before, north)
 }
 
-// 0 where a place is at an edge on the right or below.
-fn is_inner(image: ImgRef<'_, u8>, x: usize, y: usize) -> u8
+// 0 where a place is at an edge: on the right or below in the first pass, on the left or above in the
+// second one.
+fn is_inner(image: ImgRef<'_, u8>, x: usize, y: usize, is_first: bool) -> u8
     requires fits { Fits (ref_layout image) }
     requires column { x < 2 ^ 32 }
     requires row { y < 2 ^ 32 }
-    ensures { result ≡ south_east (ref_grid image.entry) x y }
+    ensures { result ≡ (if is_first then south_east (ref_grid image.entry) x y
+        else north_west (ref_grid image.entry) x y) }
 {
-    let (north, east) = (ink_at(image, x + 1, y), ink_at(image, x + 2, y + 1));
-    let (south, west) = (ink_at(image, x + 1, y + 2), ink_at(image, x, y + 1));
-    north.min(east.min(south)) + west.min(east.min(south))
-}
-
-// The same on the left or above.
-fn is_inner_again(image: ImgRef<'_, u8>, x: usize, y: usize) -> u8
-    requires fits { Fits (ref_layout image) }
-    requires column { x < 2 ^ 32 }
-    requires row { y < 2 ^ 32 }
-    ensures { result ≡ north_west (ref_grid image.entry) x y }
-{
-    let (north, east) = (ink_at(image, x + 1, y), ink_at(image, x + 2, y + 1));
-    let (south, west) = (ink_at(image, x + 1, y + 2), ink_at(image, x, y + 1));
-    east.min(west.min(north)) + south.min(west.min(north))
+    let (right, left) = (ink_at(image, x + 2, y + 1), ink_at(image, x, y + 1));
+    let (below, above) = (ink_at(image, x + 1, y + 2), ink_at(image, x + 1, y));
+    let (first, second, edge) = if is_first {
+        (above, left, right.min(below))
+    } else {
+        (right, below, left.min(above))
+    };
+    first.min(edge) + second.min(edge)
 }
 
 // Whether a place goes.
@@ -131,13 +126,13 @@ pub fn thin(alloc: Global, image: ImgRef<'_, u8>) -> Result<ImgVec<u8>, AllocErr
         alloc,
         width,
         height,
-        |x, y| after_pass(image, x, y, is_inner(image, x, y)),
+        |x, y| after_pass(image, x, y, is_inner(image, x, y, true)),
     )?;
     let first = first.as_ref();
     ImgVec::from_places(
         alloc,
         width,
         height,
-        |x, y| after_pass(first, x, y, is_inner_again(first, x, y)),
+        |x, y| after_pass(first, x, y, is_inner(first, x, y, false)),
     )
 }

@@ -28,7 +28,7 @@ fn numbered<T: Copy + Drop + From<u8>>(
 }
 
 // An image of two rows is copied to one with other padding. Then it is equal, and no longer once
-// a pixel is another one.
+// a pixel is another one. Its rows are cloned one after the other.
 fn check_width<T: Copy + Drop + PartialEq + From<u8>>(
     rt: &impl Abort,
     alloc: Global,
@@ -39,6 +39,7 @@ fn check_width<T: Copy + Drop + PartialEq + From<u8>>(
     requires width { width < 200 }
     requires padding { padding < 9 }
     requires other { other < 9 }
+    requires clones_equal { (x y : T) → T.is_clone x y → y ≡ x }
 {
     let source = numbered::<T>(alloc, width, padding, 0)?;
     let mut target = numbered::<T>(alloc, width, other, 100)?;
@@ -60,7 +61,10 @@ fn check_width<T: Copy + Drop + PartialEq + From<u8>>(
             target.put(x, y, pixel);
         }
     }
-    assert!(rt; target == source);
+    assert!(rt; target == source && source.is_valid());
+    let pixels: Vec<T> = source.pixels().collect(alloc)?;
+    let (joined, _, _) = source.as_ref().to_contiguous_buf(alloc)?;
+    assert!(rt; joined.as_ref() == pixels.as_slice());
     Ok(())
 }
 
@@ -70,7 +74,8 @@ fn check_each_width<T: Copy + Drop + PartialEq + From<u8>>(
     alloc: Global,
     widths: usize,
 ) -> Result<(), AllocError>
-    requires { widths < 200 }
+    requires widths { widths < 200 }
+    requires clones_equal { (x y : T) → T.is_clone x y → y ≡ x }
 {
     for width in 0..widths {
         for (padding, other) in [(0, 0), (0, 3), (3, 0), (1, 8)] {
@@ -81,43 +86,10 @@ fn check_each_width<T: Copy + Drop + PartialEq + From<u8>>(
 }
 
 #[test]
-fn bytes_of_each_width_are_copied_and_compared(rt: HostRuntime) -> Result<(), Fail> {
+fn rows_of_each_width_are_copied_compared_and_cloned(rt: HostRuntime) -> Result<(), Fail> {
     check_each_width::<u8>(&rt, rt.alloc(), 140)?;
-    Ok(())
-}
-
-#[test]
-fn words_of_each_width_are_copied_and_compared(rt: HostRuntime) -> Result<(), Fail> {
     check_each_width::<u16>(&rt, rt.alloc(), 70)?;
     check_each_width::<u32>(&rt, rt.alloc(), 36)?;
     check_each_width::<u64>(&rt, rt.alloc(), 20)?;
-    Ok(())
-}
-
-// The rows of padded images of every width below this one are cloned one after the other.
-fn check_clones<T: Copy + Drop + PartialEq + From<u8>>(
-    rt: &impl Abort,
-    alloc: Global,
-    widths: usize,
-) -> Result<(), AllocError>
-    requires widths { widths < 200 }
-    requires clones_equal { (x y : T) → T.is_clone x y → y ≡ x }
-{
-    for width in 0..widths {
-        let image = numbered::<T>(alloc, width, 3, 0)?;
-        assert!(rt; image.is_valid());
-        let pixels: Vec<T> = image.pixels().collect(alloc)?;
-        let (joined, _, _) = image.as_ref().to_contiguous_buf(alloc)?;
-        assert!(rt; joined.as_ref() == pixels.as_slice());
-    }
-    Ok(())
-}
-
-#[test]
-fn pixels_of_each_width_are_cloned(rt: HostRuntime) -> Result<(), Fail> {
-    check_clones::<u8>(&rt, rt.alloc(), 140)?;
-    check_clones::<u16>(&rt, rt.alloc(), 70)?;
-    check_clones::<u32>(&rt, rt.alloc(), 36)?;
-    check_clones::<u64>(&rt, rt.alloc(), 20)?;
     Ok(())
 }

@@ -1,5 +1,0 @@
--- What was filled is the window, and the image is as it was outside.
-use Rattle.imgref_examples.proofs.tiles.darken_lent.Goals as goal
-
-pub returns-then-corner-lt128-clause-outside : goal.returns-then-corner-lt128-clause-outside
-returns-then-corner-lt128-clause-outside c = c.window_parts_mut-cells.ensures.outside c.fill_tile.new.cells c.fill_tile.ensures.outside
