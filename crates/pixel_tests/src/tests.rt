@@ -1,5 +1,4 @@
 //! One file for each subject.
 
-mod flips;
 mod means;
-mod turns;
+mod moves;
