@@ -53,7 +53,6 @@ def runs(library, command, given=b""):
         yield ran, was_refused
         if not was_refused:
             return
-    raise ValueError(f"{command}: it has no end")
 
 
 def of_program(library, command, given, told, ends, spared):
@@ -72,7 +71,7 @@ def of_program(library, command, given, told, ends, spared):
             bad.append(f"growth {number}: it printed {ran.stdout!r}, said {ran.stderr!r} and ended with status {ran.returncode}")
     if spared:
         bad.append(f"{spared} refusals that are spared were not seen")
-    return number - 1, bad
+    return number - 1, bad + too_many(was_refused)
 
 
 def of_test(library, program, test):
@@ -81,7 +80,12 @@ def of_test(library, program, test):
     for number, (ran, was_refused) in enumerate(runs(library, [program, test]), 1):
         if ran.returncode and not (was_refused and any(it in ran.stderr for it in HANDED_ON)):
             bad.append(f"{test}, growth {number}: {ran.stderr.decode(errors='replace').strip()}")
-    return number - 1, bad
+    return number - 1, bad + [f"{test}: {it}" for it in too_many(was_refused)]
+
+
+def too_many(was_refused):
+    """What is wrong where even the last run had a growth to refuse."""
+    return [f"it takes {MOST} growths or more, so not each was refused"] if was_refused else []
 
 
 def tests_of(program):
