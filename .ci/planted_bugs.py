@@ -44,6 +44,8 @@ UNREADABLE = re.compile(r"is not in scope|has no field|is no name|operand is mis
 NO_FUNCTION = "no_such_function"
 # The sum of the crates' texts at which all planted bugs were refused last.
 REFUSED = ROOT / "out/planted_bugs_refused"
+# A check is made at most so many times, each without what the one before found stale.
+MOST_CHECKS = 4
 HARDLY = re.compile(r"(?:\./)?proofs/.*(?:has no field|is not in scope|has no `|was not admitted)")
 
 
@@ -85,11 +87,20 @@ def is_unreadable(line, texts):
     return not at[2] or bool(UNREADABLE.search(re.sub(r"`[^`]*`", "", at[3])))
 
 
-def try_all(name, bugs):
-    """Tries bugs together, and those that show no goal so one by one. Gives for each whether it is refused and what to say."""
+def names_of(bugs):
+    """What a check of these bugs alone proves: their copies, or the functions that they change. Nothing where one changes more."""
+    if any(not it.functions or None in it.functions for it in bugs if not it.is_copied):
+        return []
+    own = lambda function: f"{function.owner}::{function.name}" if function.owner else function.name
+    return sorted({name for bug in bugs for name in ([bug.copy] if bug.is_copied else [own(it) for _, it in bug.functions])})
+
+
+def try_together(name, bugs, only):
+    """Tries bugs in one check of these functions, or of the whole crate. Gives the goal of each that is refused, those that show
+    none, and what the first check said with which texts."""
     crate = ROOT / "crates" / name
-    left, answers, first = bugs, {}, None
-    for _ in range(4):
+    refused, left, answers, first = {}, bugs, {}, None
+    for _ in range(MOST_CHECKS):
         planted = plant(left, crate)
         for file, goals in answers.items():
             text = planted.texts.get(file)
@@ -97,24 +108,35 @@ def try_all(name, bugs):
                 text = (crate / file).read_text(encoding="utf-8")
             if text is not None:
                 planted.texts[file] = without(text, goals)
-        # (of a whole check the toolchain also writes how to go on with each open proof)
-        lines, status = said_with(name, planted.texts, [it.copy for it in left] if left[0].is_copied else ())
+        lines, status = said_with(name, planted.texts, only(left))
         first = first or (lines, status, planted.texts)
         if status != 1 or any(is_unreadable(it, planted.texts) for it in lines):
             break
         goals = {bug.name: goal_of(planted.spans[bug.name], lines) for bug in left}
-        yield from ((True, f"{bug.name}: refused: {goals[bug.name][:160]}") for bug in left if goals[bug.name])
+        refused |= {bug: goal for bug, goal in goals.items() if goal}
         left = [bug for bug in left if not goals[bug.name]]
         stale = [it.groups() for it in map(STALE.match, lines) if it]
         if not left or not stale:
             break
         for file, goal in stale:
             answers.setdefault(file, set()).add(goal)
-    if len(bugs) > 1 or left and left[0].is_copied:
+    return refused, left, first
+
+
+def try_all(name, bugs):
+    """Tries bugs together, and those that show no goal so one by one. Gives for each whether it is refused and what to say."""
+    alone = len(bugs) == 1 and not bugs[0].is_copied
+    refused, left, first = try_together(name, bugs, names_of)
+    if left and alone and names_of(left):
+        # (of the whole crate: another function may refuse the bug, and the last line says whether all is proved)
+        more, left, first = try_together(name, left, lambda _: [])
+        refused |= more
+    yield from ((True, f"{bug}: refused: {goal[:160]}") for bug, goal in refused.items())
+    if alone:
+        yield from (judged(bug, *first) for bug in left)
+    else:
         for bug in left:
             yield from try_all(name, [dataclasses.replace(bug, folder=False)])
-    elif left:
-        yield judged(left[0], *first)
 
 
 def compile_all(name, bugs):
