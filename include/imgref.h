@@ -36,8 +36,8 @@
 /* The version of this header, in three numbers and as a text. */
 #define IMGREF_VERSION_MAJOR 0
 #define IMGREF_VERSION_MINOR 3
-#define IMGREF_VERSION_PATCH 0
-#define IMGREF_VERSION "0.3.0"
+#define IMGREF_VERSION_PATCH 1
+#define IMGREF_VERSION "0.3.1"
 
 #ifdef __cplusplus
 extern "C" {
