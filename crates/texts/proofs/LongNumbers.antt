@@ -45,8 +45,11 @@ value_is b digit =
     grind (arith, nat_tests)
 
 -- one digit more
-pub value_more : (n value : ℕ) (xs : List ℕ) → n < length xs → IsDigit (get_or xs n 0) → digits_value 10 (take n xs) ≡ value → digits_value 10 (take (n + 1) xs) + 48 ≡ value * 10 + get_or xs n 0
-value_more n value xs long digit is = omega (arith, digits_value_more 10 xs n long, value_is (get_or xs n 0) digit)
+pub value_more : (n value : ℕ) (xs : List ℕ) → n < length xs → is_ascii_digit (get_or xs n 0) ≡ true → digits_value 10 (take n xs) ≡ value
+    → IsDigit (get_or xs n 0) × (digits_value 10 (take (n + 1) xs) + 48 ≡ value * 10 + get_or xs n 0)
+value_more n value xs long test is =
+    let digit : IsDigit (get_or xs n 0) = record { low = grind (arith, nat_tests); high = grind (arith, nat_tests) } in
+    (digit, omega (arith, digits_value_more 10 xs n long, value_is (get_or xs n 0) digit))
 
 -- digits whose value is no usize, whatever follows
 pub too_great : (n : ℕ) (xs : List ℕ) → 2 ^ 64 ≤ digits_value 10 (take n xs) → digits_of xs ≡ None

@@ -16,22 +16,18 @@ returns-then-not-is_ascii_digit c =
 pub returns-in_err-number : goal.returns-in_err-number
 returns-in_err-number c =
     let l = c.loop-byte in
-    let piece = c.args.piece.now in
-    let digit : IsDigit (get_or piece l.byte-index 0) = record { low = grind (arith, nat_tests); high = grind (arith, nat_tests) } in
-    let more = value_more l.byte-index l.number piece c.loop-byte-test.true digit l.invariant.value in
+    let more = value_more l.byte-index l.number c.args.piece.now c.loop-byte-test.true (cc) l.invariant.value in
     let great = c.with_digit.ensures.too_great (c.in_err-number.was) in
-    c.from_residual.ensures ∙ sym (too_great (l.byte-index + 1) piece (omega (arith, more, great)))
+    c.from_residual.ensures ∙ sym (too_great (l.byte-index + 1) c.args.piece.now (omega (arith, more.1, great)))
 
 pub loop-byte-preserved : goal.loop-byte-preserved
 loop-byte-preserved c =
     let l = c.loop-byte in
-    let piece = c.args.piece.now in
-    let digit : IsDigit (get_or piece l.byte-index 0) = record { low = grind (arith, nat_tests); high = grind (arith, nat_tests) } in
-    let more = value_more l.byte-index l.number piece c.loop-byte-test.true digit l.invariant.value in
+    let more = value_more l.byte-index l.number c.args.piece.now c.loop-byte-test.true (cc) l.invariant.value in
     let is = c.with_digit.ensures.value c.in_ok-number.number c.in_ok-number.was in
     record {
-      digits = below_more (λ (k : ℕ). IsDigit (get_or piece k 0)) l.byte-index l.invariant.digits digit;
-      value = omega (arith, more, is);
+      digits = below_more (λ (k : ℕ). IsDigit (get_or c.args.piece.now k 0)) l.byte-index l.invariant.digits more.0;
+      value = omega (arith, more.1, is);
       small = c.with_digit.ensures.small c.in_ok-number.number c.in_ok-number.was;
     }
 
