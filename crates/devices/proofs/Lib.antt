@@ -1,3 +1,4 @@
 pub mod DeviceBytes
 pub mod Filling
 pub mod Lines
+pub mod Progress
