@@ -4,7 +4,7 @@ ghost use Rattle.std.specs.Prelude.{◌≡◌, ◌≤◌, ◌<◌, All, IsPermut
 ghost use Rattle.std.specs.List.Sorted.{IsNonDecreasingBy, IsStableByKey};
 ghost use Rattle.std.specs.Ordering.{nat_cmp};
 ghost use Rattle.text_model.specs.Parts.{parts_of};
-ghost use Rattle.frame_lists.specs.Boxes.{IsBox, IsTracked, TouchesExactly, each_box, begins_with_box, window_of_box};
+ghost use Rattle.frame_lists.specs.Boxes.{IsBox, TouchesExactly, each_box, begins_with_box, window_of_box};
 ghost use Rattle.frame_edits.specs.BoxCovers.{cover_of, first_of, AreCovers};
 
 use crate::covers::with_window;
@@ -43,7 +43,7 @@ impl BoxStyle {
 /// What a box becomes, in its frame alone: the change of exactly the whole pixels that the box
 /// touches, and of a margin. Columns and rows count from 2^32 before those of the frame.
 pub fn cover_of(style: BoxStyle, tracked: Tracked) -> Edit
-    requires { IsBox tracked }
+    requires { IsBox 34 tracked }
     ensures cover { result ≡ cover_of style tracked }
     ensures touched { TouchesExactly tracked (window_of_box tracked) }
 {
@@ -67,7 +67,7 @@ fn cover_all(
     style: BoxStyle,
     boxes: &[Tracked],
 ) -> Result<Vec<Edit>, AllocFailed<Edit>>
-    requires { All IsTracked boxes.now }
+    requires { All (IsBox 32) boxes.now }
     ensures covers { IfOk result (λ covers. covers.items ≡ map (cover_of style) boxes.now) }
     ensures none { length boxes.now ≡ 0 → IsOk result }
 {

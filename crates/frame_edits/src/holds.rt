@@ -4,7 +4,7 @@ ghost use Rattle.std.specs.Prelude.{◌≡◌, ◌<◌, ◌+◌, ◌∷◌, ◌+
 ghost use Rattle.std.specs.List.{slice_get};
 ghost use Rattle.std.specs.Option.{option_to_list};
 ghost use Rattle.text_model.specs.Parts.{parts_of};
-ghost use Rattle.frame_lists.specs.Boxes.{IsTracked, begins_with_box, each_box};
+ghost use Rattle.frame_lists.specs.Boxes.{IsBox, begins_with_box, each_box};
 ghost use Rattle.frame_lists.specs.Tracks.{missing, goes_on_at, comes_at, around};
 ghost use Rattle.frame_edits.specs.Holds.{kept, kept_on, filled, between, held_at, held, AreHeld};
 
@@ -18,7 +18,7 @@ use std::alloc::{AllocFailed, Global};
 // The cover of a box that is kept for so many frames before its own and after it.
 #[tactic(auto, using(crate::proofs::BoxSizes::is_box))]
 fn kept(style: BoxStyle, before: usize, after: usize, tracked: Tracked) -> Edit
-    requires { IsTracked tracked }
+    requires { IsBox 32 tracked }
     ensures { result ≡ kept style before after tracked }
 {
     let frame = tracked.frame as u64;
@@ -36,8 +36,8 @@ fn kept(style: BoxStyle, before: usize, after: usize, tracked: Tracked) -> Edit
 
 // The cover of the box around two, in the frames between them.
 fn between(style: BoxStyle, first: &Tracked, next: &Tracked) -> Edit
-    requires first { IsTracked first.now }
-    requires next { IsTracked next.now }
+    requires first { IsBox 32 first.now }
+    requires next { IsBox 32 next.now }
     ensures { result ≡ between style first.now next.now }
 {
     Edit {
@@ -62,7 +62,7 @@ fn kept_on(hold: usize, goes: bool) -> usize
 // The cover of the gap after a box, where its track goes on.
 fn filled(style: BoxStyle, goes: bool, boxes: &[Tracked], at: usize) -> Option<Edit>
     requires at { at < length boxes.now }
-    requires tracked { All IsTracked boxes.now }
+    requires tracked { All (IsBox 32) boxes.now }
     ensures { option_to_list result
         ≡ filled style goes (slice_get boxes.now at) (slice_get boxes.now (at + 1)) }
 {
@@ -77,7 +77,7 @@ fn filled(style: BoxStyle, goes: bool, boxes: &[Tracked], at: usize) -> Option<E
 /// after it. Its own is kept for so many frames on each side where the track doesn't go on.
 pub fn held_at(style: BoxStyle, hold: usize, boxes: &[Tracked], at: usize) -> (Edit, Option<Edit>)
     requires at { at < length boxes.now }
-    requires tracked { All IsTracked boxes.now }
+    requires tracked { All (IsBox 32) boxes.now }
     ensures { result.0 ∷ option_to_list result.1 ≡ held_at style hold boxes.now at }
 {
     let goes = goes_on_at(hold, boxes, at);
@@ -109,7 +109,7 @@ fn hold_all(
     hold: usize,
     boxes: &[Tracked],
 ) -> Result<Vec<Edit>, AllocFailed<Edit>>
-    requires { All IsTracked boxes.now }
+    requires { All (IsBox 32) boxes.now }
     ensures covers { IfOk result (λ covers. covers.items ≡ held style hold boxes.now) }
     ensures none { length boxes.now ≡ 0 → IsOk result }
 {

@@ -87,28 +87,17 @@ place_of d = if d.minus then 429496729600000000000000000000 - units_of d else 42
 abbrev pub pixels_up : ℕ → ℕ
 pixels_up units = (units + 99999999999999999999) / 100000000000000000000
 
--- a number that a field may hold
-pub record IsDecimal (d : Decimal) : Type 0 where
-  pub whole : d.whole < 2 ^ 32
+-- a number whose whole part has so many bits: those of a field have 32, and a size of the box around two has 34
+pub record IsDecimal (bits : ℕ) (d : Decimal) : Type 0 where
+  pub whole : d.whole < 2 ^ bits
   pub part : d.part < 100000000000000000000
 
-pub record IsTracked (b : Tracked) : Type 0 where
-  pub left : IsDecimal b.left
-  pub top : IsDecimal b.top
-  pub width : IsDecimal b.width
-  pub height : IsDecimal b.height
-
--- a size of the box around two
-pub record IsExtent (d : Decimal) : Type 0 where
-  pub whole : d.whole < 2 ^ 34
-  pub part : d.part < 100000000000000000000
-
--- a box of a line, or the box around two
-pub record IsBox (b : Tracked) : Type 0 where
-  pub left : IsDecimal b.left
-  pub top : IsDecimal b.top
-  pub width : IsExtent b.width
-  pub height : IsExtent b.height
+-- a box whose sizes have so many bits: 32 where a line is the box, and 34 for the box around two
+pub record IsBox (bits : ℕ) (b : Tracked) : Type 0 where
+  pub left : IsDecimal 32 b.left
+  pub top : IsDecimal 32 b.top
+  pub width : IsDecimal bits b.width
+  pub height : IsDecimal bits b.height
 
 -- the first pixel that has a part of what begins there and is so long, and how many such pixels there are; pixels count from 2 ^ 32 before the frame
 abbrev pub side_of : Decimal → Decimal → ℕ × ℕ

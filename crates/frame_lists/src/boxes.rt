@@ -5,7 +5,7 @@ ghost use Rattle.std.specs.List.{list_all};
 ghost use Rattle.text_model.specs.Parts.{parts_of};
 ghost use Rattle.text_model.specs.Reading.{Finds, first_of_parts};
 ghost use Rattle.texts.specs.Parts.{parts_left};
-ghost use Rattle.frame_lists.specs.Boxes.{without_white, ended, box_text, part_of, part_in, unsigned_in, signed_of, decimal_of, frame_of, box_of, IsDecimal, IsTracked, place_of, side_of, with_box, IsBoxLine, IsExtent, IsBox, TouchesExactly, window_of_box, each_box, begun, begins_with_box};
+ghost use Rattle.frame_lists.specs.Boxes.{without_white, ended, box_text, part_of, part_in, unsigned_in, signed_of, decimal_of, frame_of, box_of, IsDecimal, IsBox, place_of, side_of, with_box, IsBoxLine, TouchesExactly, window_of_box, each_box, begun, begins_with_box};
 ghost use Rattle.frame_lists.specs.Lines.{is_white};
 
 use crate::digits::read_worth;
@@ -110,7 +110,7 @@ fn next_part_of(parts: Parts<'_>) -> Option<u128>
 #[tactic(auto, unfolding(crate::specs::Boxes::unsigned_in))]
 fn read_unsigned(minus: bool, piece: &[u8]) -> Option<Decimal>
     ensures number { result ≡ unsigned_in minus (parts_of 46 piece.now) }
-    ensures exact { IfSome result IsDecimal }
+    ensures exact { IfSome result (IsDecimal 32) }
 {
     let mut parts = Parts::new(piece, b'.');
     let whole: usize = next(&mut parts)?;
@@ -121,7 +121,7 @@ fn read_unsigned(minus: bool, piece: &[u8]) -> Option<Decimal>
 #[inline(always)]
 fn read_signed(piece: &[u8]) -> Option<Decimal>
     ensures number { result ≡ signed_of piece.now }
-    ensures exact { IfSome result IsDecimal }
+    ensures exact { IfSome result (IsDecimal 32) }
 {
     match piece {
         [] => None,
@@ -134,7 +134,7 @@ fn read_signed(piece: &[u8]) -> Option<Decimal>
 #[inline(always)]
 pub fn read_decimal(field: &[u8]) -> Option<Decimal>
     ensures number { result ≡ decimal_of field.now }
-    ensures exact { IfSome result IsDecimal }
+    ensures exact { IfSome result (IsDecimal 32) }
 {
     read_signed(without_white(field))
 }
@@ -144,7 +144,7 @@ pub fn read_decimal(field: &[u8]) -> Option<Decimal>
 fn next_decimal(fields: &mut Parts<'_>) -> Option<Decimal>
     ensures number { Finds (λ x. (x, parts_left fields.new)) result
         (first_of_parts decimal_of (parts_left fields.old)) }
-    ensures exact { IfSome result IsDecimal }
+    ensures exact { IfSome result (IsDecimal 32) }
 {
     read_decimal(fields.next_part()?)
 }
@@ -171,7 +171,7 @@ fn next_frame(fields: &mut Parts<'_>) -> Option<usize>
 #[tactic(auto, unfolding(crate::specs::Boxes::box_in))]
 pub fn read_box(line: &[u8]) -> Option<Tracked>
     ensures tracked { result ≡ box_of line.now }
-    ensures exact { IfSome result IsTracked }
+    ensures exact { IfSome result (IsBox 32) }
 {
     let mut fields = Parts::new(line, b',');
     let frame = next_frame(&mut fields)?;
@@ -192,7 +192,7 @@ pub fn read_box(line: &[u8]) -> Option<Tracked>
 
 // The pixel that a place is in, from 2^32 before the frame, and how far it is after its beginning.
 fn pixel_of(start: Decimal) -> (usize, u128)
-    requires { IsDecimal start }
+    requires { IsDecimal 32 start }
     ensures place { place_of start ≡ result.0 * 100000000000000000000 + result.1 }
     ensures part { result.1 < 100000000000000000000 }
     ensures small { result.0 < 2 ^ 33 }
@@ -208,8 +208,8 @@ fn pixel_of(start: Decimal) -> (usize, u128)
 
 // The first pixel that a side touches, and how many it touches.
 fn side_of(start: Decimal, extent: Decimal) -> (usize, usize)
-    requires start { IsDecimal start }
-    requires extent { IsExtent extent }
+    requires start { IsDecimal 32 start }
+    requires extent { IsDecimal 34 extent }
     ensures { result ≡ side_of start extent }
 {
     let (first, part) = pixel_of(start);
@@ -227,7 +227,7 @@ fn side_of(start: Decimal, extent: Decimal) -> (usize, usize)
 /// The whole pixels that a box touches. Columns and rows count from 2^32 before those of the frame.
 #[tactic(auto, using(crate::proofs::Touched::touches_exactly))]
 pub fn window_of_box(tracked: Tracked) -> Window
-    requires { IsBox tracked }
+    requires { IsBox 34 tracked }
     ensures window { result ≡ window_of_box tracked }
     ensures touched { TouchesExactly tracked result }
 {
@@ -258,10 +258,10 @@ fn pass_over(line: &[u8]) -> Result<(), WordsFault>
 
 // Adds the box that a line is, where it has a word.
 fn take_box(boxes: &mut Vec<Tracked>, line: &[u8]) -> Result<(), WordsFault>
-    requires { All IsTracked boxes.old.items }
+    requires { All (IsBox 32) boxes.old.items }
     ensures taken { OnOk result
         (with_box (λ b. b) boxes.old.items line.now ≡ Some boxes.new.items) }
-    ensures exact { OnOk result (All IsTracked boxes.new.items) }
+    ensures exact { OnOk result (All (IsBox 32) boxes.new.items) }
     ensures none { IfErr result
         (λ e. e ≡ WordsFault.NoEdit → with_box (λ b. b) boxes.old.items line.now ≡ None) }
     ensures memory { IfErr result (λ e. e ≡ WordsFault.Memory → IsBoxLine line.now) }
@@ -284,7 +284,7 @@ fn take_box(boxes: &mut Vec<Tracked>, line: &[u8]) -> Result<(), WordsFault>
 #[tactic(auto, using(crate::proofs::BoxesBegun::begun_more, crate::proofs::BoxesBegun::begun_here))]
 pub fn read_tracked(alloc: Global, text: &[u8]) -> Result<Vec<Tracked>, WordsFault>
     ensures boxes { IfOk result (λ boxes. each_box (λ b. b) text.now ≡ Some boxes.items) }
-    ensures exact { IfOk result (λ boxes. All IsTracked boxes.items) }
+    ensures exact { IfOk result (λ boxes. All (IsBox 32) boxes.items) }
     ensures none { IfErr result
         (λ e. e ≡ WordsFault.NoEdit → each_box (λ b. b) text.now ≡ None) }
     ensures begun { IfOk result

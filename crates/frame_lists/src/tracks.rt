@@ -1,7 +1,7 @@
 //! The tracks that boxes are of, and the box around two.
 
 ghost use Rattle.std.specs.Prelude.{◌≡◌, ◌<◌, ◌≤◌, ◌+◌, length, All, IsPermutation, IsOk, OnOk, max};
-ghost use Rattle.frame_lists.specs.Boxes.{IsDecimal, IsExtent, IsBox, IsTracked, place_of, units_of};
+ghost use Rattle.frame_lists.specs.Boxes.{IsDecimal, IsBox, place_of, units_of};
 ghost use Rattle.frame_lists.specs.Tracks.{track_of, missing, continues, goes_on_at, comes_at, first_start, both_extent, around, HasBoth, AreByTracks, KeepTies};
 
 use crate::boxes::{Decimal, PIXEL, Tracked};
@@ -45,7 +45,7 @@ pub fn goes_on_at(hold: usize, boxes: &[Tracked], at: usize) -> bool
 
 // Where a number is, in units after the least one.
 fn place_of(number: Decimal) -> u128
-    requires { IsDecimal number }
+    requires { IsDecimal 32 number }
     ensures place { result ≡ place_of number }
     ensures small { result < 858993459200000000000000000000 }
 {
@@ -58,7 +58,7 @@ fn place_of(number: Decimal) -> u128
 }
 
 fn units_of(number: Decimal) -> u128
-    requires { IsDecimal number }
+    requires { IsDecimal 32 number }
     ensures size { result ≡ units_of number }
     ensures small { result < 429496729600000000000000000000 }
 {
@@ -68,13 +68,13 @@ fn units_of(number: Decimal) -> u128
 // In one direction: where the first of two sides begins, and how far it is from there to the end of
 // both.
 fn both_sides(first: Decimal, long: Decimal, second: Decimal, wide: Decimal) -> (Decimal, Decimal)
-    requires first { IsDecimal first }
-    requires long { IsDecimal long }
-    requires second { IsDecimal second }
-    requires wide { IsDecimal wide }
+    requires first { IsDecimal 32 first }
+    requires long { IsDecimal 32 long }
+    requires second { IsDecimal 32 second }
+    requires wide { IsDecimal 32 wide }
     ensures start { result.0 ≡ first_start first second }
     ensures extent { result.1 ≡ both_extent first long second wide }
-    ensures sound { IsExtent result.1 }
+    ensures sound { IsDecimal 34 result.1 }
 {
     let (from, other) = (place_of(first), place_of(second));
     let (start, begin) = if from <= other {
@@ -93,10 +93,10 @@ fn both_sides(first: Decimal, long: Decimal, second: Decimal, wide: Decimal) -> 
 
 /// The smallest box around two.
 pub fn around(first: &Tracked, next: &Tracked) -> Tracked
-    requires first { IsTracked first.now }
-    requires next { IsTracked next.now }
+    requires first { IsBox 32 first.now }
+    requires next { IsBox 32 next.now }
     ensures around { result ≡ around first.now next.now }
-    ensures sound { IsBox result }
+    ensures sound { IsBox 34 result }
     ensures both { HasBoth first.now next.now result }
 {
     let (left, width) = both_sides(first.left, first.width, next.left, next.width);
@@ -127,7 +127,7 @@ pub fn comes_at(hold: usize, boxes: &[Tracked], at: usize) -> bool
 /// No memory was found.
 pub fn put_by_tracks(boxes: &mut Vec<Tracked>) -> Result<(), AllocError>
     ensures same { IsPermutation boxes.old.items boxes.new.items }
-    ensures tracked { All IsTracked boxes.old.items → All IsTracked boxes.new.items }
+    ensures tracked { All (IsBox 32) boxes.old.items → All (IsBox 32) boxes.new.items }
     ensures by_tracks { OnOk result (AreByTracks boxes.new.items) }
     ensures ties { OnOk result (KeepTies boxes.old.items boxes.new.items) }
     ensures as_many { length boxes.new.items ≡ length boxes.old.items }

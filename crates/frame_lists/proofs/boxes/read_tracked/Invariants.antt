@@ -2,7 +2,7 @@ use Rattle.std.proofs.Common.{◌≡◌, length}
 use Rattle.std.specs.List.{All}
 use Rattle.text_model.specs.Parts.{parts_of}
 use Rattle.texts.specs.Parts.{parts_left}
-use Rattle.frame_lists.specs.Boxes.{IsTracked, with_boxes, each_box, begun, begins_with_box}
+use Rattle.frame_lists.specs.Boxes.{IsBox, with_boxes, each_box, begun, begins_with_box}
 use Rattle.frame_lists.proofs.boxes.read_tracked.Given as goal
 
 -- the lines that are left add to the boxes so far what all lines add to none
@@ -10,7 +10,7 @@ abbrev pub invariant-loop-line : goal.invariant-loop-line
 invariant-loop-line l = record {
   left : with_boxes (λ b. b) l.boxes.items (parts_left l.lines) ≡ each_box (λ b. b) l.text;
   begun : begun l.boxes.items (begins_with_box (parts_left l.lines)) ≡ begins_with_box (parts_of 10 l.text);
-  exact : All IsTracked l.boxes.items;
+  exact : All (IsBox 32) l.boxes.items;
 }
 
 abbrev pub decreases-loop-line : goal.decreases-loop-line

@@ -1,6 +1,6 @@
 use Rattle.std.proofs.Common.{rules}
 use Rattle.std.proofs.lemmas.List.Sorted.{All-permutation, IsPermutation-trans, answers_always, ties_still_rise, IsNonDecreasingBy-from_sort_by_key}
-use Rattle.frame_lists.specs.Boxes.{IsTracked}
+use Rattle.frame_lists.specs.Boxes.{IsBox}
 use Rattle.frame_lists.specs.Tracks.{track_of}
 use Rattle.frame_lists.proofs.Ties.{ties_kept}
 use Rattle.frame_lists.proofs.tracks.put_by_tracks.Goals as goal
@@ -21,7 +21,7 @@ pub returns-clause-same : goal.returns-clause-same
 returns-clause-same c = IsPermutation-trans _ _ _ c.sort_by_key.ensures.permutation c.sort_by_key-2.ensures.permutation
 
 pub returns-clause-tracked : goal.returns-clause-tracked
-returns-clause-tracked c all = All-permutation IsTracked _ _ c.sort_by_key-2.ensures.permutation (All-permutation IsTracked _ _ c.sort_by_key.ensures.permutation all)
+returns-clause-tracked c all = All-permutation (IsBox 32) _ _ c.sort_by_key-2.ensures.permutation (All-permutation (IsBox 32) _ _ c.sort_by_key.ensures.permutation all)
 
 pub returns-in_err-sort_by_key-2-clause-tracked : goal.returns-in_err-sort_by_key-2-clause-tracked
-returns-in_err-sort_by_key-2-clause-tracked c all = All-permutation IsTracked _ _ c.sort_by_key-2.ensures.permutation (All-permutation IsTracked _ _ c.sort_by_key.ensures.permutation all)
+returns-in_err-sort_by_key-2-clause-tracked c all = All-permutation (IsBox 32) _ _ c.sort_by_key-2.ensures.permutation (All-permutation (IsBox 32) _ _ c.sort_by_key.ensures.permutation all)
