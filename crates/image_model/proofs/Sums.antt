@@ -132,13 +132,19 @@ sum_above g l k x y e column line = ⊎_elim
     ∙ ap (area_sum g (x + 1)) (omega (arith, some)))
     (eqb_tells y 0)
 
--- a sum of bytes fits
-pub sum_fits : (g : Grid ℕ) (width height x y : ℕ) → AreBelow 256 g → width * height < 2 ^ 56 → x < width → y < height → area_sum g (x + 1) y + line_sum g (x + 1) y < 2 ^ 64
-sum_fits g width height x y below few column line =
-    let most : (x + 1) * (y + 1) ≤ width * height = mul-le-mul (omega (arith, column)) (omega (arith, line)) in
-    omega (arith, most, few, area_bound g 255 below (x + 1) (y + 1), area_more g (x + 1) y)
+-- bytes of a row
+pub line_bytes : (g : Grid ℕ) (x y : ℕ) → AreBelow 256 g → line_sum g x y ≤ 255 * x
+line_bytes g x y below = line_bound g 255 below x y
+
+-- the sum of bytes at a place fits: what is above it, and its row up to it
+pub sum_fits : (g : Grid ℕ) (l k : Layout ℕ) (width height x y above line byte : ℕ) → AreBelow 256 g → l.width ≡ width → l.height ≡ height → width * height < 2 ^ 56
+    → grid_of k ≡ table_upto (area_at g) x y (grid_of l) → x < width → y < height → above ≡ (if y == 0 then 0 else shown (grid_of k) x (y - 1)) → line ≡ line_sum g x y → byte ≡ shown g x y
+    → above + (line + byte) < 2 ^ 64
+sum_fits g l k width height x y above line byte below wide high few e column row is_above is_line is_byte =
+    let most : (x + 1) * (y + 1) ≤ width * height = mul-le-mul (omega (arith, column)) (omega (arith, row)) in
+    omega (arith, is_above, is_line, is_byte, sum_above g l k x y e (omega (arith, column, wide)) (omega (arith, row, high)), line_more g x y, most, few, area_bound g 255 below (x + 1) (y + 1), area_more g (x + 1) y)
 
 -- these laws, for a caller's `using`
 pub ruleset sums = (line_none, line_more, area_none, area_more)
 
-pub ruleset areas = (line_none, line_more, line_bound, area_none, area_more, sum_above, sum_fits)
+pub ruleset areas = (line_none, line_more, line_bytes, area_none, area_more, sum_above)
