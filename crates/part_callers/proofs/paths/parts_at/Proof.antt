@@ -1,13 +1,13 @@
 -- `parts_at` lends the whole image, takes the window of the path from it, and parts that: its MIR, proved by hand. Assumes `Logic`.
 use mir.Syntax.{Body}
-use Rattle.std.proofs.Common.{⊎_elim, ◌≡◌, refl, sym, ap, subst, ◌∙◌, ℕ, List, [], ◌∷◌, ◌++◌, T, lit<, length, Bor, MutBor, None}
+use Rattle.std.proofs.Common.{⊎_elim, ◌≡◌, refl, sym, ap, subst, ◌∙◌, ℕ, List, [], ◌∷◌, T, lit<, length, Bor, MutBor, None}
 use Rattle.std.proofs.alloc.Shapes.{after}
 use Rattle.std.proofs.lemmas.Option.{none-some}
 use Rattle.std.specs.Result.{IfOk, result_err}
 use Rattle.std.specs.contracts.result.Result as result
 use Rattle.std.specs.declared.result.Result.{Result}
 use Rattle.std.specs.declared.result.Result.TheVariants.{Ok, Err}
-use Rattle.borrow_laws.proofs.Walking.{SProp, emp, id⊢, Lft, GName, ftrue, flft, Args, Fn, named, inst_fn, Val, WT, has_ty, vptr, Env, Wp, WpFn, after_seq, at_return, ◌⊑◌, ⊑_refl, ⊑_trans, ⊑_meet, fact, fact_i, tables, Item, any_q, ‵, ◌⊛◌, raw, later, some, prop, at_ret, ◌$◌, ◌∵◌, !, qed, by, move, keep, drop, split, split3, join, fsplit, fjoin, rewrite, regoal, use0, use1, use2, await, pick, updating, now, done, vrt, in_variant, all_of, stop, fld, addr, of_opd, and_then, no_more, first, switches_on, exec, returns, enter, alloc_all, pass_all, free_all, look_at, get, get_in, get_tag, through, sets, lands_as, lands_last, env, Array, usize, follows, follows_if, follows_then, shows, Is, param, RattleType, owns, MutRef, mut_vals, mut_Tells, plain, types_at, ShrSlice, slice_val, shr_slice_Tells, nothing, heard, peeks, only, calls_at, calls_at_last, lasts, triple_of, framed, Stays, stay_dropped, walk_of, Goes-spent_ref, proved_at, leaves}
+use Rattle.borrow_laws.proofs.Walking.{SProp, emp, id⊢, Lft, GName, ftrue, flft, Args, Fn, named, inst_fn, Val, WT, has_ty, vptr, Env, Wp, after_seq, at_return, ◌⊑◌, ⊑_refl, ⊑_trans, ⊑_meet, fact, fact_i, tables, Item, any_q, ‵, ◌⊛◌, raw, later, some, at_ret, ◌$◌, ◌∵◌, !, qed, by, move, keep, drop, split, split3, join, fsplit, fjoin, rewrite, use0, use1, use2, await, pick, updating, now, done, vrt, in_variant, all_of, stop, fld, addr, of_opd, and_then, no_more, first, switches_on, exec, returns, enter, alloc_all, pass_all, free_all, look_at, get, get_in, get_tag, through, sets, lands_as, lands_last, env, Array, usize, follows, follows_if, follows_then, shows, Is, param, RattleType, owns, mut_vals, mut_Tells, plain, types_at, ShrSlice, slice_val, shr_slice_Tells, nothing, heard, peeks, only, calls_at, calls_at_last, lasts, triple_of, framed, Stays, stay_dropped, walk_of, Goes-spent_ref, proved, leaves}
 use Rattle.borrow_laws.proofs.Bodies.{of_container, first_arm, type_of}
 use Rattle.borrow_laws.proofs.Followed.{if_given}
 use Rattle.image_model.specs.Layout.{Layout, Fits}
@@ -41,9 +41,10 @@ pub parts_at_spec : {M : Type 1} → statement M
 parts_at_spec 𝓤 𝓛 𝓜 𝓡 wired X Y LX LY gh d gs ds bm bs =
     let H = 𝓛.H in let 𝓣 = tables 𝓤 H 𝓜 𝓡 𝓡.env in let fm = framed 𝓤 H 𝓜 𝓣 in
     let args : Args = of_container X Y d ds in let fn : Fn = inst_fn args compiled.function in let R : RattleType = param 1 Y in let Whole : RattleType = the_row (param 0 X) in
-    let En = ended X Y gh d gs ds in let c = clauses X Y gh d gs ds 𝓛 𝓜.mem 𝓡.returns in let ps = En.signature.params in let stays : Stays En.signature.params En.kept = (stay_dropped _ En.kept.0, (stay_dropped _ En.kept.1.0, tt)) in
-    proved_at 𝓛 En stays c 𝓜 𝓡 (Goes-spent_ref 𝓛 4 (0 ∷ []) tt (plain (λ _. Whole)), ((λ κs x f vs ok. qed 𝓛 (‵ ftrue ∷ []) ∵ updating ! $ now ! $ done !), tt)) (#self args) fn (compiled.unfolded 𝓤 H 𝓜 𝓡 wired (X, (Y, tt)) d ds) (λ z are.
-    let Post : Val → SProp 𝓤 = (walk_of 𝓛 En stays c).post z in let a = z.0.3 in let vss = z.0.4 in let κs = z.0.0 in let qs = z.0.1 in let κ : Lft = κs.0 in let κp : Lft = κs.1.0 in let κX : Lft = κs.1.1.0 in let κY : Lft = κs.1.1.1.0 in
+    let En = ended X Y gh d gs ds in let c = clauses X Y gh d gs ds 𝓛 𝓜.mem 𝓡.returns in let stays : Stays En.signature.params En.kept = (stay_dropped _ En.kept.0, (stay_dropped _ En.kept.1.0, tt)) in
+    proved 𝓛 En stays c 𝓜 𝓡 (Goes-spent_ref 𝓛 4 (0 ∷ []) tt (plain (λ _. Whole)), ((λ κs x f vs ok. qed 𝓛 (‵ ftrue ∷ []) ∵ updating ! $ now ! $ done !), tt)) (#self args) fn (compiled.unfolded 𝓤 H 𝓜 𝓡 wired (X, (Y, tt)) d ds)
+    (λ κs. (mut_vals, ((λ path. slice_val path.ref_ptr (length path.now) ∷ []), tt))) (λ κs. (mut_Tells (named 0) κs.0 Whole, (shr_slice_Tells (named 1) κs.1.0 window.the_row, tt))) (λ κs qs bounds a gg are.
+    let κ : Lft = κs.0 in let κp : Lft = κs.1.0 in let κX : Lft = κs.1.1.0 in let κY : Lft = κs.1.1.1.0 in
     let x : MutBor (Img X.Denot) = a.0 in
     let path : Bor (List Window) = a.1.0 in
     let ws : List model.Window = as_path path.now in
@@ -65,18 +66,13 @@ parts_at_spec 𝓤 𝓛 𝓜 𝓡 wired X Y LX LY gh d gs ds bm bs =
     let Tok₁ : Item 𝓤 = ‵ (flft κ qs.0) ⊛ ‵ (flft κX qs.1.1.0) ⊛ ‵ (flft κY qs.1.1.1.0) ⊛ ‵ ftrue in
     let Tok₂ : Item 𝓤 = ‵ (flft κ qs.0) ⊛ ‵ (flft κp qs.1.0) ⊛ ‵ (flft κY qs.1.1.1.0) ⊛ ‵ ftrue in
     let pw : Val = slice_val path.ref_ptr (length path.now) in
+    let z : (walk_of 𝓛 En stays c).Ghost = ((κs, qs, bounds, a, (mut_vals x, (pw ∷ [], tt))), gg) in let Post : Val → SProp 𝓤 = (walk_of 𝓛 En stays c).post z in
     let G₁ = triple_of 𝓛 (g.signature X Y) (g.spec X Y gh d gs ds 𝓛 𝓜.mem 𝓡.returns) in
-    let z₁ : G₁.Ghost = (((κ, (κX, (κY, tt))), (qs.0, (qs.1.1.0, (qs.1.1.1.0, tt))), z.0.2, (x, tt), (mut_vals x, tt)), tt) in
-    qed 𝓛 (((‵ (flft κ qs.0) ⊛ ‵ (flft κp qs.1.0) ⊛ ‵ (flft κX qs.1.1.0) ⊛ ‵ (flft κY qs.1.1.1.0) ⊛ ‵ ftrue) ⊛ ‵ (owns (types_at ps z.0.0) a vss)) ∷ (raw (fact 𝓤 (κX ⊑ X.lives)) ⊛ raw (fact 𝓤 (κY ⊑ Y.lives)) ⊛ raw (fact 𝓤 FitsIn) ⊛ raw (fact 𝓤 Inside)) ∷ []) ∵
+    let z₁ : G₁.Ghost = (((κ, (κX, (κY, tt))), (qs.0, (qs.1.1.0, (qs.1.1.1.0, tt))), bounds, (x, tt), (mut_vals x, tt)), tt) in
+    qed 𝓛 (((‵ (flft κ qs.0) ⊛ ‵ (flft κp qs.1.0) ⊛ ‵ (flft κX qs.1.1.0) ⊛ ‵ (flft κY qs.1.1.1.0) ⊛ ‵ ftrue) ⊛ ‵ (owns (types_at En.signature.params κs) a z.0.4)) ∷ (raw (fact 𝓤 (κX ⊑ X.lives)) ⊛ raw (fact 𝓤 (κY ⊑ Y.lives)) ⊛ raw (fact 𝓤 FitsIn) ⊛ raw (fact 𝓤 Inside)) ∷ []) ∵
     move ! (1 ∷ []) $ split3 ! $ heard ! (κX ⊑ X.lives) (λ leX. heard ! (κY ⊑ Y.lives) (λ leY. split ! $ heard ! FitsIn (λ fits. heard ! Inside (λ inside. split ! $ move ! (1 ∷ []) $ fsplit ! $ move ! (1 ∷ []) $ fsplit ! $ keep ! (2 ∷ 0 ∷ 3 ∷ []) $
     -- [the image's reference; the path; the tokens]
-    let told = mut_Tells (named 0) κ Whole x vss.0 are.0 in
-    let ptold : vss.1.0 ≡ pw ∷ [] = shr_slice_Tells (named 1) κp window.the_row path vss.1.0 are.1.0 in
-    rewrite ! 0 (λ (vs : List Val). ‵ ((MutRef (named 0) κ Whole).own_val x vs)) told refl $ rewrite ! 1 (λ (vs : List Val). ‵ (Path.own_val path vs)) ptold refl $
-    regoal ! (λ (vs : List Val). prop (WpFn 𝓤 H 𝓣.C 𝓣.Λ fn vs Post)) (λ k. told k ++ (ptold k ++ [])) refl $
-    enter ! 𝓣.C 𝓣.Λ fn (vptr x.ref_ptr.0 x.ref_ptr.1 ∷ pw ∷ []) Post $
-    alloc_all ! (λ l. let E : Env 𝓤 H = env fn.locals l in
-    pass_all ! refl ((tt, tt), ((tt, (tt, (record { fits = are.1.0.0.1.0 }, tt))), tt)) $
+    enter ! 𝓣.C 𝓣.Λ fn (vptr x.ref_ptr.0 x.ref_ptr.1 ∷ pw ∷ []) Post $ alloc_all ! (λ l. pass_all ! refl ((tt, tt), ((tt, (tt, (record { fits = are.1.0.0.1.0 }, tt))), tt)) $
     sets ! (addr ! (through ! refl (stop !))) refl (tt, tt) $
     move ! (2 ∷ []) $ split3 ! $ nothing ! $ move ! (4 ∷ 0 ∷ []) $ join ! $ move ! (1 ∷ 3 ∷ []) $ join ! $ join ! $
     nothing ! $ use0 𝓛 (raw (fact 𝓤 (κY ⊑ Y.lives))) (fact_i 𝓤 (κY ⊑ Y.lives) (emp 𝓤) leY) $ join ! $ use0 𝓛 (raw (fact 𝓤 (κX ⊑ X.lives))) (fact_i 𝓤 (κX ⊑ X.lives) (emp 𝓤) leX) $ join ! $
@@ -95,7 +91,7 @@ parts_at_spec 𝓤 𝓛 𝓜 𝓡 wired X Y LX LY gh d gs ds bm bs =
     let Fit_r : Type 0 = Fits (mut_layout r) in
     let fit_r : Fit_r = subst (λ (k : Layout Y.Denot). Fits k) (sym all) fits in
     let G₂ = triple_of 𝓛 (f.signature Y) (f.spec Y 𝓛 𝓜.mem 𝓡.returns) in
-    let z₂ : G₂.Ghost = (((κ, (κp, (κY, tt))), (qs.0, (qs.1.0, (qs.1.1.1.0, tt))), (z.0.2.1.0, tt), (r, (path, tt)), (band_val r ∷ [], (pw ∷ [], tt))), tt) in
+    let z₂ : G₂.Ghost = (((κ, (κp, (κY, tt))), (qs.0, (qs.1.0, (qs.1.1.1.0, tt))), (bounds.1.0, tt), (r, (path, tt)), (band_val r ∷ [], (pw ∷ [], tt))), tt) in
     nothing ! $ move ! (5 ∷ 0 ∷ []) $ fjoin ! $ move ! (1 ∷ 0 ∷ []) $ fjoin ! $
     move ! (2 ∷ []) $ split3 ! $ move ! (5 ∷ 2 ∷ []) $ join ! $ move ! (1 ∷ 0 ∷ []) $ join ! $ move ! (0 ∷ 2 ∷ []) $ join ! $
     use0 𝓛 (raw (fact 𝓤 Fit_r)) (fact_i 𝓤 Fit_r (emp 𝓤) fit_r) $ use0 𝓛 (raw (fact 𝓤 (κY ⊑ Y.lives))) (fact_i 𝓤 (κY ⊑ Y.lives) (emp 𝓤) leY) $ join ! $
@@ -121,6 +117,7 @@ parts_at_spec 𝓤 𝓛 𝓜 𝓡 wired X Y LX LY gh d gs ds bm bs =
     let window_ok : WT (band_val y) = band_ok (named 0) κ R y _ is.1.1.1.1.0 in
     lands_as ! (ap only told_y) refl (tt, (record { fits = lit< tt }, (window_ok, tt))) $
     use1 𝓛 (‵ (Row.own_val y (band_val y ∷ []))) (ok_image (named 0) κ R y 𝓛 v₂) $
+    let E : Env 𝓤 H = env fn.locals l in
     let rest : Body = after 4 fn.body in
     let next_body = any_q (after_seq 𝓤 H (Wp 𝓤 H 𝓣.C 𝓣.Λ E rest (at_return 𝓤 H E Post)) (at_return 𝓤 H E Post)) in
     first ! $ switches_on ! (get_tag ! (vrt ! refl (fld ! refl (stop !))) (all_of !)) $ exec ! 𝓣.C 𝓣.Λ E (first_arm (after 3 fn.body)) next_body $
@@ -128,7 +125,7 @@ parts_at_spec 𝓤 𝓛 𝓜 𝓡 wired X Y LX LY gh d gs ds bm bs =
     sets ! (of_opd ! (get ! refl)) refl (tt, window_ok) $
     -- [the window; what the image follows; the tokens; the token of κX]
     move ! (2 ∷ []) $ split3 ! $ nothing ! $ move ! (4 ∷ 0 ∷ []) $ join ! $ nothing ! $ move ! (2 ∷ 0 ∷ []) $ join ! $ join ! $
-    let lives : κ ⊑ Held.lives = ⊑_meet κ κ Y.lives (⊑_refl κ) (⊑_trans κ κY Y.lives z.0.2.1.0 leY) in
+    let lives : κ ⊑ Held.lives = ⊑_meet κ κ Y.lives (⊑_refl κ) (⊑_trans κ κY Y.lives bounds.1.0 leY) in
     let G₃ = triple_of 𝓛 (parts.signature Held) (parts.spec Held 𝓛 𝓜.mem 𝓡.returns) in
     let z₃ : G₃.Ghost = (((κ, tt), (qs.0, tt), tt, (y, tt), (band_val y ∷ [], tt)), tt) in
     nothing ! $ use0 𝓛 (raw (fact 𝓤 (κ ⊑ Held.lives))) (fact_i 𝓤 (κ ⊑ Held.lives) (emp 𝓤) lives) $ join ! $ move ! (1 ∷ 0 ∷ []) $ use2 𝓛 (raw (G₃.pre z₃)) (id⊢ 𝓤 _) $

@@ -1,9 +1,9 @@
 -- `tile_parts` takes the next tile and parts it: its MIR, proved by hand. Assumes `Logic`.
 use mir.Syntax.{Body}
-use Rattle.std.proofs.Common.{⊎_elim, arith, ◌≡◌, refl, sym, ap, subst, ◌∙◌, ◌<◌, List, [], ◌∷◌, ◌++◌, T, lit<, length, MutBor, Option, Some, None}
+use Rattle.std.proofs.Common.{⊎_elim, arith, ◌≡◌, refl, sym, ap, subst, ◌∙◌, ◌<◌, List, [], ◌∷◌, T, lit<, length, MutBor, Option, Some, None}
 use Rattle.std.proofs.alloc.Shapes.{after}
 use Rattle.std.specs.contracts.option.Option as OP
-use Rattle.borrow_laws.proofs.Walking.{SProp, emp, id⊢, Lft, GName, ftrue, flft, Args, Fn, named, inst_fn, Val, WT, has_ty, vptr, Env, Wp, WpFn, after_seq, at_return, ◌⊑◌, ⊑_refl, ⊑_trans, ⊑_meet, fact, fact_i, tables, Item, any_q, ‵, ◌⊛◌, raw, later, some, prop, at_ret, ◌$◌, ◌∵◌, !, qed, by, move, keep, drop, split, split3, join, fsplit, fjoin, rewrite, regoal, use0, use1, use2, await, pick, vrt, in_variant, all_of, stop, fld, addr, of_opd, and_then, no_more, first, switches_on, exec, returns, enter, alloc_all, pass_all, free_all, look_at, get, get_in, get_tag, through, sets, lands_as, lands_last, env, Array, follows, follows_if, shows, Is, param, RattleType, owns, MutRef, mut_vals, mut_Tells, plain, types_at, nothing, heard, peeks, only, calls_at, calls_at_last, lasts, triple_of, framed, Stays, stay_dropped, walk_of, Goes-spent_ref, proved_at, leaves}
+use Rattle.borrow_laws.proofs.Walking.{SProp, emp, id⊢, Lft, GName, ftrue, flft, Args, Fn, named, inst_fn, Val, WT, has_ty, vptr, Env, Wp, after_seq, at_return, ◌⊑◌, ⊑_refl, ⊑_trans, ⊑_meet, fact, fact_i, tables, Item, any_q, ‵, ◌⊛◌, raw, later, some, at_ret, ◌$◌, ◌∵◌, !, qed, by, move, keep, drop, split, split3, join, fsplit, fjoin, rewrite, use0, use1, use2, await, pick, vrt, in_variant, all_of, stop, fld, addr, of_opd, and_then, no_more, first, switches_on, exec, returns, enter, alloc_all, pass_all, free_all, look_at, get, get_in, get_tag, through, sets, lands_as, lands_last, env, Array, follows, follows_if, shows, Is, param, RattleType, owns, mut_vals, mut_Tells, plain, types_at, nothing, heard, peeks, only, calls_at, calls_at_last, lasts, triple_of, framed, Stays, stay_dropped, walk_of, Goes-spent_ref, proved, leaves}
 use Rattle.borrow_laws.proofs.Bodies.{of_container, first_arm, type_of}
 use Rattle.borrow_laws.proofs.Followed.{if_given}
 use Rattle.borrow_laws.proofs.Options.{none_or_some}
@@ -34,10 +34,11 @@ pub tile_parts_spec : {M : Type 1} → statement M
 tile_parts_spec 𝓤 𝓛 𝓜 𝓡 wired X Y LX LY gh d gs ds bm bs =
     let H = 𝓛.H in let 𝓣 = tables 𝓤 H 𝓜 𝓡 𝓡.env in let fm = framed 𝓤 H 𝓜 𝓣 in
     let args : Args = of_container X Y d ds in let fn : Fn = inst_fn args compiled.function in let R : RattleType = param 1 Y in let Whole : RattleType = the_row (param 0 X) in
-    let En = ended X Y gh d gs ds in let c = clauses X Y gh d gs ds 𝓛 𝓜.mem 𝓡.returns in let ps = En.signature.params in let stays : Stays En.signature.params En.kept = (stay_dropped _ En.kept.0, tt) in
-    proved_at 𝓛 En stays c 𝓜 𝓡 (Goes-spent_ref 𝓛 3 (0 ∷ []) tt (plain (λ _. Whole)), tt) (#self args) fn (compiled.unfolded 𝓤 H 𝓜 𝓡 wired (X, (Y, tt)) d ds) (λ z are.
-    let Post : Val → SProp 𝓤 = (walk_of 𝓛 En stays c).post z in let a = z.0.3 in let vss = z.0.4 in let κs = z.0.0 in let qs = z.0.1 in let κ : Lft = κs.0 in let κX : Lft = κs.1.0 in let κY : Lft = κs.1.1.0 in
+    let En = ended X Y gh d gs ds in let c = clauses X Y gh d gs ds 𝓛 𝓜.mem 𝓡.returns in let stays : Stays En.signature.params En.kept = (stay_dropped _ En.kept.0, tt) in
+    proved 𝓛 En stays c 𝓜 𝓡 (Goes-spent_ref 𝓛 3 (0 ∷ []) tt (plain (λ _. Whole)), tt) (#self args) fn (compiled.unfolded 𝓤 H 𝓜 𝓡 wired (X, (Y, tt)) d ds) (λ κs. (mut_vals, tt)) (λ κs. (mut_Tells (named 0) κs.0 Whole, tt)) (λ κs qs bounds a gg are.
+    let κ : Lft = κs.0 in let κX : Lft = κs.1.0 in let κY : Lft = κs.1.1.0 in
     let x : MutBor (TileCursor X.Denot) = a.0 in
+    let z : (walk_of 𝓛 En stays c).Ghost = ((κs, qs, bounds, a, (mut_vals x, tt)), gg) in let Post : Val → SProp 𝓤 = (walk_of 𝓛 En stays c).post z in
     let h : TileCursor X.Denot = x.now in
     let γ : GName = x.ghost_name in
     let before : List Window = tiles_left gs.cells h in
@@ -54,16 +55,11 @@ tile_parts_spec 𝓤 𝓛 𝓜 𝓡 wired X Y LX LY gh d gs ds bm bs =
     let Gives : Given → Type 0 = NextTile gs.cells gh.with_cells gh.padded_windows h before in
     let Tok : Item 𝓤 = ‵ (flft κ qs.0) ⊛ ‵ (flft κX qs.1.0) ⊛ ‵ (flft κY qs.1.1.0) ⊛ ‵ ftrue in
     let G₁ = triple_of 𝓛 (f.signature X Y) (f.spec X Y gh d gs ds 𝓛 𝓜.mem 𝓡.returns) in
-    let z₁ : G₁.Ghost = ((κs, qs, z.0.2, (x, tt), (mut_vals x, tt)), tt) in
-    qed 𝓛 ((Tok ⊛ ‵ (owns (types_at ps z.0.0) a vss)) ∷ (raw (fact 𝓤 (κX ⊑ X.lives)) ⊛ raw (fact 𝓤 (κY ⊑ Y.lives)) ⊛ raw (fact 𝓤 More)) ∷ []) ∵
+    let z₁ : G₁.Ghost = ((κs, qs, bounds, (x, tt), (mut_vals x, tt)), tt) in
+    qed 𝓛 ((Tok ⊛ ‵ (owns (types_at En.signature.params κs) a z.0.4)) ∷ (raw (fact 𝓤 (κX ⊑ X.lives)) ⊛ raw (fact 𝓤 (κY ⊑ Y.lives)) ⊛ raw (fact 𝓤 More)) ∷ []) ∵
     move ! (1 ∷ []) $ split3 ! $ heard ! (κX ⊑ X.lives) (λ leX. heard ! (κY ⊑ Y.lives) (λ leY. heard ! More (λ more. split ! $ move ! (1 ∷ []) $ fsplit ! $ keep ! (0 ∷ 2 ∷ []) $
     -- [the cursor's reference; the tokens]
-    let told = mut_Tells (named 0) κ Whole x vss.0 are.0 in
-    rewrite ! 0 (λ (vs : List Val). ‵ ((MutRef (named 0) κ Whole).own_val x vs)) told refl $
-    regoal ! (λ (vs : List Val). prop (WpFn 𝓤 H 𝓣.C 𝓣.Λ fn vs Post)) (λ k. told k ++ []) refl $
-    enter ! 𝓣.C 𝓣.Λ fn (vptr x.ref_ptr.0 x.ref_ptr.1 ∷ []) Post $
-    alloc_all ! (λ l. let E : Env 𝓤 H = env fn.locals l in
-    pass_all ! refl ((tt, tt), tt) $
+    enter ! 𝓣.C 𝓣.Λ fn (vptr x.ref_ptr.0 x.ref_ptr.1 ∷ []) Post $ alloc_all ! (λ l. pass_all ! refl ((tt, tt), tt) $
     sets ! (addr ! (through ! refl (stop !))) refl (tt, tt) $
     nothing ! $ move ! (1 ∷ 0 ∷ []) $ join ! $ move ! (1 ∷ 0 ∷ []) $ join ! $
     nothing ! $ use0 𝓛 (raw (fact 𝓤 (κY ⊑ Y.lives))) (fact_i 𝓤 (κY ⊑ Y.lives) (emp 𝓤) leY) $ join ! $ use0 𝓛 (raw (fact 𝓤 (κX ⊑ X.lives))) (fact_i 𝓤 (κX ⊑ X.lives) (emp 𝓤) leX) $ join ! $
@@ -84,6 +80,7 @@ tile_parts_spec 𝓤 𝓛 𝓜 𝓡 wired X Y LX LY gh d gs ds bm bs =
     let tile_ok : WT (band_val y) = band_ok (named 0) κ R y _ is.1.1.1.1.0 in
     lands_as ! (ap only told_y) refl (tt, (record { fits = lit< tt }, (tile_ok, tt))) $
     use1 𝓛 (‵ (Row.own_val y (band_val y ∷ []))) (some_image (named 0) κ R y 𝓛 v) $
+    let E : Env 𝓤 H = env fn.locals l in
     let rest : Body = after 3 fn.body in
     let next_body = any_q (after_seq 𝓤 H (Wp 𝓤 H 𝓣.C 𝓣.Λ E rest (at_return 𝓤 H E Post)) (at_return 𝓤 H E Post)) in
     first ! $ switches_on ! (get_tag ! (vrt ! refl (fld ! refl (stop !))) (all_of !)) $ exec ! 𝓣.C 𝓣.Λ E (first_arm (after 2 fn.body)) next_body $
@@ -91,7 +88,7 @@ tile_parts_spec 𝓤 𝓛 𝓜 𝓡 wired X Y LX LY gh d gs ds bm bs =
     sets ! (of_opd ! (get ! refl)) refl (tt, tile_ok) $
     -- [the tile; what the cursor follows; the tokens]
     move ! (2 ∷ []) $ split3 ! $ nothing ! $ move ! (4 ∷ 0 ∷ []) $ join ! $ nothing ! $ move ! (2 ∷ 0 ∷ []) $ join ! $ join ! $
-    let lives : κ ⊑ Held.lives = ⊑_meet κ κ Y.lives (⊑_refl κ) (⊑_trans κ κY Y.lives z.0.2.1.0 leY) in
+    let lives : κ ⊑ Held.lives = ⊑_meet κ κ Y.lives (⊑_refl κ) (⊑_trans κ κY Y.lives bounds.1.0 leY) in
     let G₂ = triple_of 𝓛 (parts.signature Held) (parts.spec Held 𝓛 𝓜.mem 𝓡.returns) in
     let z₂ : G₂.Ghost = (((κ, tt), (qs.0, tt), tt, (y, tt), (band_val y ∷ [], tt)), tt) in
     nothing ! $ use0 𝓛 (raw (fact 𝓤 (κ ⊑ Held.lives))) (fact_i 𝓤 (κ ⊑ Held.lives) (emp 𝓤) lives) $ join ! $ move ! (1 ∷ 0 ∷ []) $ use2 𝓛 (raw (G₂.pre z₂)) (id⊢ 𝓤 _) $
