@@ -160,21 +160,18 @@ module _ {T : Type 0} (s : Shape) where
         second_is : slice_get new j ≡ slice_get now i
         second_is = made.each j (omega (arith, second_within, as_many)) ∙ ap (slice_get now) (second_of i j)
 
+        -- the cell of column u of row v comes from that of column v of row u
+        moved : (u v k m : ℕ) → u < s.width → v < s.width → k ≡ v * s.stride + u → m ≡ u * s.stride + v → slice_get new k ≡ slice_get now m
+            → crossed_cell s.stride from upto x y v u ≡ crossed_cell s.stride from upto (x + 1) y u v → slice_get new (v * s.stride + u) ≡ slice_get old (crossed_cell s.stride from upto (x + 1) y u v)
+        moved u v k m in_u in_v is_k is_m shows same = ap (slice_get new) (sym is_k) ∙ shows ∙ ap (slice_get now) is_m ∙ so.each v u in_v (omega (arith, in_u, square)) ∙ ap (slice_get old) same
+
         crossed_at : (u v : ℕ) → u < s.width → v < s.height → slice_get new (v * s.stride + u) ≡ slice_get old (crossed_cell s.stride from upto (x + 1) y u v)
         crossed_at u v in_u in_v =
             elim (same_place u v x y) [
-              | inl first ↦
-                  let at : v * s.stride + u ≡ i = ap (λ n. n * s.stride + u) first.1 ∙ ap (λ n. y * s.stride + n) first.0 ∙ sym is_i in
-                  let was : crossed_cell s.stride from upto x y y x ≡ x * s.stride + y = grind (arith, nat_tests, right, after, here) in
-                  let is : crossed_cell s.stride from upto (x + 1) y u v ≡ x * s.stride + y = ap (λ n. crossed_cell s.stride from upto (x + 1) y n v) first.0 ∙ ap (λ n. crossed_cell s.stride from upto (x + 1) y x n) first.1 ∙ grind (arith, nat_tests, right, after, here) in
-                  ap (slice_get new) at ∙ first_is ∙ ap (slice_get now) is_j ∙ so.each y x (omega arith) (omega arith) ∙ ap (slice_get old) (was ∙ sym is)
+              | inl first ↦ rw (first.0, first.1) (moved x y i j column (omega arith) is_i is_j first_is (grind (arith, nat_tests, right, after, here)))
               | inr not_first ↦
                   elim (same_place u v y x) [
-                    | inl there ↦
-                        let at : v * s.stride + u ≡ j = ap (λ n. n * s.stride + u) there.1 ∙ ap (λ n. x * s.stride + n) there.0 ∙ sym is_j in
-                        let was : crossed_cell s.stride from upto x y x y ≡ y * s.stride + x = grind (arith, nat_tests, right, after, here) in
-                        let is : crossed_cell s.stride from upto (x + 1) y u v ≡ y * s.stride + x = ap (λ n. crossed_cell s.stride from upto (x + 1) y n v) there.0 ∙ ap (λ n. crossed_cell s.stride from upto (x + 1) y y n) there.1 ∙ grind (arith, nat_tests, right, after, here) in
-                        ap (slice_get new) at ∙ second_is ∙ ap (slice_get now) is_i ∙ so.each x y (omega arith) (omega arith) ∙ ap (slice_get old) (was ∙ sym is)
+                    | inl there ↦ rw (there.0, there.1) (moved y x j i (omega arith) column is_j is_i second_is (grind (arith, nat_tests, right, after, here)))
                     | inr not_second ↦
                         let not_i : v * s.stride + u ≢ i = λ e. let p = same_from_place v u y x s.stride (omega (arith, s.holds_width)) (omega (arith, s.holds_width)) (e ∙ is_i) in not_first (p.1, p.0) in
                         let not_j : v * s.stride + u ≢ j = λ e. let p = same_from_place v u x y s.stride (omega (arith, s.holds_width)) (omega (arith, s.holds_width)) (e ∙ is_j) in not_second (p.1, p.0) in
