@@ -3,9 +3,10 @@ use Rattle.std.proofs.Common.{◌≡◌, ℕ, ◌+◌, ◌*◌, ◌/◌, ◌<◌
 use Rattle.std.proofs.lemmas.Bool.{cases_Bool, cases_lt, cond-true, cond-false, true≢false}
 use Rattle.std.proofs.lemmas.Bool.Decides.{nat_tests}
 use Rattle.image_model.specs.Layout.{pixel}
-use Rattle.image_model.specs.Grid.{grid, grid_of, covers}
+use Rattle.image_model.specs.Grid.{Grid, grid, grid_of, covers, view}
 use Rattle.image_model.specs.Tables.{is_before}
 use Rattle.image_model.specs.Turns.{transposed}
+use Rattle.image_model.specs.Windows.{Window, window_view}
 use Rattle.image_model.proofs.Grids.{at_place, covers_decides, pixel_at, same_grids}
 use Rattle.image_model.proofs.Places.{outside_trans}
 use Rattle.image_shape.specs.Shape.{shaped, shaped_grid}
@@ -18,6 +19,11 @@ use Rattle.image_turns.proofs.Diagonals.{strip_cases, strip_true, strip_past, st
 -- rows that are read in their order
 pub read_plain : {T : Type 0} (w h : ℕ) (f : ℕ → ℕ → Option T) → read_over false (grid w h f) ≡ grid w h f
 read_plain w h f = same_grids w h _ f (λ x y column line. at_place w h f x y column line)
+
+-- so are those of a window
+pub read_window : {T : Type 0} (g : Grid T) (w : Window) {seen : Grid T} → seen ≡ window_view g w → read_over false seen ≡ window_view g w
+unfolding view
+read_window g w shows = ap (read_over false) shows ∙ read_plain w.width w.height (λ x y. g.pixel (w.left + x) (w.top + y))
 
 -- ---- pairs of blocks one after the other
 
