@@ -83,31 +83,9 @@ same_place u v x y =
       | inr (_, other) ↦ inr (λ e. other e.0)
     ]
 
--- a place is in the strip, past it or before it
-pub strip_cases : (from upto u v : ℕ) → ((u < upto) × (v < upto) × ((from ≤ u) ⊎ (from ≤ v))) ⊎ ((upto ≤ u) ⊎ (upto ≤ v)) ⊎ ((u < from) × (v < from))
-strip_cases from upto u v =
-    elim (cases_lt u upto) [
-      | inr right ↦ inr (inl (inl right))
-      | inl column ↦
-          elim (cases_lt v upto) [
-            | inr below ↦ inr (inl (inr below))
-            | inl line ↦
-                elim (cases_lt u from) [
-                  | inr there ↦ inl (column, line, inl there)
-                  | inl before ↦ elim (cases_lt v from) [ inr there ↦ inl (column, line, inr there) | inl above ↦ inr (inr (before, above)) ]
-                ]
-          ]
-    ]
-
--- and the test says so
-pub strip_true : (from upto u v : ℕ) → u < upto → v < upto → (from ≤ u) ⊎ (from ≤ v) → is_in_strip from upto u v ≡ true
-strip_true from upto u v column line there = elim there [ inl right ↦ grind (arith, nat_tests, column, line, right) | inr below ↦ grind (arith, nat_tests, column, line, below) ]
-
-pub strip_past : (from upto u v : ℕ) → (upto ≤ u) ⊎ (upto ≤ v) → is_in_strip from upto u v ≡ false
-strip_past from upto u v past = elim past [ inl right ↦ grind (arith, nat_tests, right) | inr below ↦ grind (arith, nat_tests, below) ]
-
-pub strip_before : (from upto u v : ℕ) → u < from → v < from → is_in_strip from upto u v ≡ false
-strip_before from upto u v column line = grind (arith, nat_tests, column, line)
+-- once all rows of the strip are done, the places that have changed are those in it
+strip_done : (from upto x y u v : ℕ) → upto ≤ y → is_crossed from upto x y u v ≡ is_in_strip from upto u v
+strip_done from upto x y u v high = grind (arith, nat_tests, high)
 
 module _ {T : Type 0} (s : Shape) where
   -- no pair yet
@@ -194,34 +172,16 @@ module _ {T : Type 0} (s : Shape) where
 
     -- all pairs of the strip
     module _ (square : s.width ≡ s.height) (high : upto ≤ y) where
-      in_strip : (stride u v : ℕ) → u < upto → v < upto → (from ≤ u) ⊎ (from ≤ v) → crossed_cell stride from upto x y u v ≡ u * stride + v
-      in_strip stride u v column line there = elim there [ inl right ↦ grind (arith, nat_tests, high, column, line, right) | inr below ↦ grind (arith, nat_tests, high, column, line, below) ]
-
-      past_strip : (stride u v : ℕ) → (upto ≤ u) ⊎ (upto ≤ v) → crossed_cell stride from upto x y u v ≡ v * stride + u
-      past_strip stride u v past = elim past [ inl right ↦ grind (arith, nat_tests, right) | inr below ↦ grind (arith, nat_tests, below) ]
-
-      before_strip : (stride u v : ℕ) → u < from → v < from → crossed_cell stride from upto x y u v ≡ v * stride + u
-      before_strip stride u v column line = grind (arith, nat_tests, column, line)
-
       pub strip_shown : shaped_grid now s ≡ strip_crossed from upto (shaped_grid old s)
       unfolding grid_of
       strip_shown =
           same_grids s.width s.height (pixel (shaped now s)) (λ u v. if is_in_strip from upto u v then (shaped_grid old s).pixel v u else (shaped_grid old s).pixel u v)
           (λ u v column line.
           so.each u v column line
-          ∙ elim (strip_cases from upto u v) [
-            | inl here ↦
-                ap (slice_get old) (in_strip s.stride u v here.0 here.1 here.2)
-                ∙ sym (pixel_at (shaped old s) v u (omega (arith, line, square)) (omega (arith, column, square)))
-                ∙ sym (cond-true (is_in_strip from upto u v) _ _ (strip_true from upto u v here.0 here.1 here.2))
-            | inr (inl past) ↦
-                ap (slice_get old) (past_strip s.stride u v past)
-                ∙ sym (pixel_at (shaped old s) u v column line)
-                ∙ sym (cond-false (is_in_strip from upto u v) _ _ (strip_past from upto u v past))
-            | inr (inr before) ↦
-                ap (slice_get old) (before_strip s.stride u v before.0 before.1)
-                ∙ sym (pixel_at (shaped old s) u v column line)
-                ∙ sym (cond-false (is_in_strip from upto u v) _ _ (strip_before from upto u v before.0 before.1))
+          ∙ ap (λ b. slice_get old (if b then u * s.stride + v else v * s.stride + u)) (strip_done from upto x y u v high)
+          ∙ elim (is_in_strip from upto u v) as (λ b. slice_get old (if b then u * s.stride + v else v * s.stride + u) ≡ (if b then (shaped_grid old s).pixel v u else (shaped_grid old s).pixel u v)) [
+            | true ↦ sym (pixel_at (shaped old s) v u (omega (arith, line, square)) (omega (arith, column, square)))
+            | false ↦ sym (pixel_at (shaped old s) u v column line)
           ])
 
       pub strip_outside : SameOutside (shaped old s) (shaped now s)

@@ -59,8 +59,7 @@ both_false false b e = (refl, e)
 
 -- the pixel at a place, or across the diagonal
 abbrev pub crossed_pixel : {T : Type 0} → Bool → Grid T → ℕ → ℕ → Option T
-crossed_pixel true g u v = g.pixel v u
-crossed_pixel false g u v = g.pixel u v
+crossed_pixel b g u v = if b then g.pixel v u else g.pixel u v
 
 -- the places that are done have changed places, and the padding stays
 pub record PlacesCrossed {T : Type 0} (done : ℕ → ℕ → Bool) (old new : List T) (s : Shape) : Type 0 where

@@ -1,6 +1,6 @@
 -- Squares of which blocks of 16 by 16 pixels change places with those across the diagonal, pair by pair.
-use Rattle.std.proofs.Common.{◌≡◌, ℕ, ◌+◌, ◌*◌, ◌/◌, ◌<◌, ◌≤◌, ◌⊎◌, Bool, true, false, List, Option, sym, ap, ◌∙◌, arith, inl, inr, nat_lt, if◌then◌else◌, ◌||◌, ◌&&◌, max, min}
-use Rattle.std.proofs.lemmas.Bool.{cases_Bool, cases_lt, cond-true, cond-false, true≢false}
+use Rattle.std.proofs.Common.{◌≡◌, ℕ, ◌+◌, ◌*◌, ◌/◌, ◌<◌, ◌≤◌, Bool, true, false, List, Option, sym, ap, ◌∙◌, arith, inl, inr, nat_lt, if◌then◌else◌, ◌||◌, ◌&&◌, max, min}
+use Rattle.std.proofs.lemmas.Bool.{cases_Bool, cases_lt, cond-true, true≢false}
 use Rattle.std.proofs.lemmas.Bool.Decides.{nat_tests}
 use Rattle.image_model.specs.Layout.{pixel}
 use Rattle.image_model.specs.Grid.{Grid, grid, grid_of, covers, view}
@@ -14,7 +14,6 @@ use Rattle.image_shape.specs.declared.shape.Shape.{Shape}
 use Rattle.image_turns.specs.Blocks.{read_over, is_across, crossed_at, corner_crossed, is_in_strip, strip_crossed}
 use Rattle.image_writes.specs.Written.{Becomes}
 use Rattle.image_turns.proofs.PlacesCrossed.{PlacesCrossed, crossed_pixel, both_false, no_place_crossed, same_places, blocks_crossed}
-use Rattle.image_turns.proofs.Diagonals.{strip_cases, strip_true, strip_past, strip_before}
 
 -- rows that are read in their order
 pub read_plain : {T : Type 0} (w h : ℕ) (f : ℕ → ℕ → Option T) → read_over false (grid w h f) ≡ grid w h f
@@ -152,38 +151,14 @@ module _ {T : Type 0} (s : Shape) where
 
 -- ---- all pairs of blocks
 
-in_corner : (n u v : ℕ) → u < 16 * n → v < 16 * n → is_done n n 0 0 (max (u / 16) (v / 16)) (min (u / 16) (v / 16)) ≡ true
-in_corner n u v column line =
-    let left : u / 16 < n = omega (arith, column) in
-    let right : v / 16 < n = omega (arith, line) in
-    let both : max (u / 16) (v / 16) < n = omega (arith, left, right) in
-    first_done n (max (u / 16) (v / 16)) (min (u / 16) (v / 16)) both
+corner_done : (n u v : ℕ) → block_done n n 0 0 u v ≡ (nat_lt u (16 * n) && nat_lt v (16 * n))
+corner_done n u v = first_done n (max (u / 16) (v / 16)) (min (u / 16) (v / 16)) ∙ first_blocks n u v
   where
-    first_done : (n a b : ℕ) → a < n → is_done n n 0 0 a b ≡ true
-    first_done n a b here = grind (arith, nat_tests, here)
+    first_done : (n a b : ℕ) → is_done n n 0 0 a b ≡ nat_lt a n
+    first_done n a b = grind (arith, nat_tests)
 
-past_corner : (n u v : ℕ) → (16 * n ≤ u) ⊎ (16 * n ≤ v) → is_done n n 0 0 (max (u / 16) (v / 16)) (min (u / 16) (v / 16)) ≡ false
-past_corner n u v past =
-    let far : n ≤ max (u / 16) (v / 16) = elim past [ inl right ↦ omega (arith, right) | inr below ↦ omega (arith, below) ] in
-    later_done n (max (u / 16) (v / 16)) (min (u / 16) (v / 16)) far
-  where
-    later_done : (n a b : ℕ) → n ≤ a → is_done n n 0 0 a b ≡ false
-    later_done n a b here = grind (arith, nat_tests, here)
-
--- the test of a corner
-corner_true : (n u v : ℕ) → u < n → v < n → nat_lt u n && nat_lt v n ≡ true
-corner_true n u v column line = grind (arith, nat_tests, column, line)
-
-corner_false : (n u v : ℕ) → (n ≤ u) ⊎ (n ≤ v) → nat_lt u n && nat_lt v n ≡ false
-corner_false n u v past = elim past [ inl right ↦ grind (arith, nat_tests, right) | inr below ↦ grind (arith, nat_tests, below) ]
-
--- a place is in the corner or not
-corner_cases : (n u v : ℕ) → ((u < n) × (v < n)) ⊎ ((n ≤ u) ⊎ (n ≤ v))
-corner_cases n u v =
-    elim (cases_lt u n) [
-      | inl column ↦ elim (cases_lt v n) [ inl line ↦ inl (column, line) | inr below ↦ inr (inr below) ]
-      | inr right ↦ inr (inl right)
-    ]
+    first_blocks : (n u v : ℕ) → nat_lt (max (u / 16) (v / 16)) n ≡ (nat_lt u (16 * n) && nat_lt v (16 * n))
+    first_blocks n u v = grind (arith, nat_tests)
 
 module _ {T : Type 0} (s : Shape) (old now : List T) where
   -- these are the first columns and rows
@@ -194,51 +169,39 @@ module _ {T : Type 0} (s : Shape) (old now : List T) where
       (λ u v column line.
       sym (pixel_at (shaped now s) u v column line)
       ∙ so.each u v column line
-      ∙ elim (corner_cases (16 * n) u v) [
-        | inl inside ↦ ap (λ b. crossed_pixel b (shaped_grid old s) u v) (in_corner n u v inside.0 inside.1) ∙ sym (cond-true (nat_lt u (16 * n) && nat_lt v (16 * n)) _ _ (corner_true (16 * n) u v inside.0 inside.1))
-        | inr past ↦ ap (λ b. crossed_pixel b (shaped_grid old s) u v) (past_corner n u v past) ∙ sym (cond-false (nat_lt u (16 * n) && nat_lt v (16 * n)) _ _ (corner_false (16 * n) u v past))
-      ])
+      ∙ ap (λ b. crossed_pixel b (shaped_grid old s) u v) (corner_done n u v))
 
 -- ---- strips of columns after a corner
+
+-- a place changes places in a corner or in the strip after it where it does in both together
+strip_added : {A : Type 0} (left right u v : ℕ) → left ≤ right → (p q : A) → (if is_in_strip left right u v then (if nat_lt v left && nat_lt u left then p else q) else (if nat_lt u left && nat_lt v left then q else p)) ≡ (if nat_lt u right && nat_lt v right then q else p)
+strip_added left right u v more p q = grind (arith, nat_tests, more)
+
+-- all places are in it, or in a strip
+in_corner : (n u v : ℕ) → u < n → v < n → (nat_lt u n && nat_lt v n) ≡ true
+in_corner n u v column line = grind (arith, nat_tests, column, line)
+
+in_strip : (n u v : ℕ) → u < n → v < n → is_in_strip 0 n u v ≡ true
+in_strip n u v column line = grind (arith, nat_tests, column, line)
 
 module _ {T : Type 0} (w h : ℕ) (f : ℕ → ℕ → Option T) (square : w ≡ h) where
   abbrev corner_pixel : ℕ → ℕ → ℕ → Option T
   corner_pixel n x y = if nat_lt x n && nat_lt y n then (grid w h f).pixel y x else (grid w h f).pixel x y
-
-  crossed_pixel_at : (n u v : ℕ) → u < n → v < n → corner_pixel n u v ≡ (grid w h f).pixel v u
-  crossed_pixel_at n u v column line = cond-true (nat_lt u n && nat_lt v n) _ _ (corner_true n u v column line)
-
-  same_pixel_at : (n u v : ℕ) → (n ≤ u) ⊎ (n ≤ v) → corner_pixel n u v ≡ (grid w h f).pixel u v
-  same_pixel_at n u v past = cond-false (nat_lt u n && nat_lt v n) _ _ (corner_false n u v past)
 
   -- the corner is larger by the strip
   pub corner_and_strip : (left right : ℕ) → left ≤ right → strip_crossed left right (corner_crossed left (grid w h f)) ≡ corner_crossed right (grid w h f)
   corner_and_strip left right more =
       same_grids w h (λ x y. if is_in_strip left right x y then (corner_crossed left (grid w h f)).pixel y x else (corner_crossed left (grid w h f)).pixel x y) (corner_pixel right)
       (λ u v column line.
-      elim (strip_cases left right u v) [
-        | inl here ↦
-            cond-true (is_in_strip left right u v) _ _ (strip_true left right u v here.0 here.1 here.2)
-            ∙ at_place w h (corner_pixel left) v u (omega (arith, line, square)) (omega (arith, column, square))
-            ∙ same_pixel_at left v u (elim here.2 [ inl there ↦ inr there | inr there ↦ inl there ])
-            ∙ sym (crossed_pixel_at right u v here.0 here.1)
-        | inr (inl past) ↦
-            cond-false (is_in_strip left right u v) _ _ (strip_past left right u v past)
-            ∙ at_place w h (corner_pixel left) u v column line
-            ∙ same_pixel_at left u v (elim past [ inl there ↦ inl (omega (arith, there, more)) | inr there ↦ inr (omega (arith, there, more)) ])
-            ∙ sym (same_pixel_at right u v past)
-        | inr (inr before) ↦
-            cond-false (is_in_strip left right u v) _ _ (strip_before left right u v before.0 before.1)
-            ∙ at_place w h (corner_pixel left) u v column line
-            ∙ crossed_pixel_at left u v before.0 before.1
-            ∙ sym (crossed_pixel_at right u v (omega (arith, before.0, more)) (omega (arith, before.1, more)))
-      ])
+      let across = at_place w h (corner_pixel left) v u (omega (arith, line, square)) (omega (arith, column, square)) in
+      let here = at_place w h (corner_pixel left) u v column line in
+      (λ i. if is_in_strip left right u v then across i else here i) ∙ strip_added left right u v more ((grid w h f).pixel u v) ((grid w h f).pixel v u))
 
   -- all columns and rows
   pub whole_corner : (n : ℕ) → w ≤ n → corner_crossed n (grid w h f) ≡ transposed (grid w h f)
   unfolding transposed
   whole_corner n all =
-      same_grids w h (corner_pixel n) (λ x y. (grid w h f).pixel y x) (λ u v column line. crossed_pixel_at n u v (omega (arith, column, all)) (omega (arith, line, square, all)))
+      same_grids w h (corner_pixel n) (λ x y. (grid w h f).pixel y x) (λ u v column line. cond-true (nat_lt u n && nat_lt v n) _ _ (in_corner n u v (omega (arith, column, all)) (omega (arith, line, square, all))))
       ∙ (λ i. grid (square i) (sym square i) (λ x y. (grid w h f).pixel y x))
 
   -- a strip of all columns and rows
@@ -246,7 +209,7 @@ module _ {T : Type 0} (w h : ℕ) (f : ℕ → ℕ → Option T) (square : w ≡
   unfolding transposed
   whole_strip n all =
       same_grids w h (λ x y. if is_in_strip 0 n x y then (grid w h f).pixel y x else (grid w h f).pixel x y) (λ x y. (grid w h f).pixel y x)
-      (λ u v column line. cond-true (is_in_strip 0 n u v) _ _ (strip_true 0 n u v (omega (arith, column, all)) (omega (arith, line, square, all)) (inl (omega arith))))
+      (λ u v column line. cond-true (is_in_strip 0 n u v) _ _ (in_strip n u v (omega (arith, column, all)) (omega (arith, line, square, all))))
       ∙ (λ i. grid (square i) (sym square i) (λ x y. (grid w h f).pixel y x))
 
 -- the first columns and rows have changed places, and the padding stays
