@@ -1,7 +1,7 @@
 -- Squares of which each place changes places with the one across the diagonal, pair by pair.
 use Rattle.std.proofs.Common.{◌≡◌, ◌≢◌, ℕ, ◌+◌, ◌*◌, ◌<◌, ◌≤◌, ◌⊎◌, Bool, true, false, List, length, refl, sym, ap, ◌∙◌, arith, inl, inr, nat_lt, nat_le, if◌then◌else◌, ◌&&◌, max}
 use Rattle.std.specs.List.{slice_get}
-use Rattle.std.proofs.lemmas.Bool.{cases_lt, cond-true, cond-false}
+use Rattle.std.proofs.lemmas.Bool.{cases_lt}
 use Rattle.std.proofs.lemmas.Bool.Decides.{nat_tests, eqb_tells}
 use Rattle.std.proofs.lemmas.Nat.{same_from_place}
 use Rattle.std.proofs.lemmas.Option.{slice_get_past}
@@ -35,41 +35,17 @@ pub record CrossedUpto {T : Type 0} (from upto x y : ℕ) (old new : List T) (s 
   pub each : (u v : ℕ) → u < s.width → v < s.height → slice_get new (v * s.stride + u) ≡ slice_get old (crossed_cell s.stride from upto x y u v)
   pub others : (k : ℕ) → IsPadding s.width s.height s.stride k → slice_get new k ≡ slice_get old k
 
--- a place on the diagonal keeps its cell
-on_diagonal : (stride from upto x y u v : ℕ) → u ≡ v → crossed_cell stride from upto x y u v ≡ v * stride + u
-on_diagonal stride from upto x y u v same = grind (arith, same)
+-- a row of the strip begins at its first column, and to the right of the diagonal
+cell_at_start : (stride from upto x y start u v : ℕ) → x ≡ 0 → start ≡ max from (y + 1) → crossed_cell stride from upto x y u v ≡ crossed_cell stride from upto start y u v
+cell_at_start stride from upto x y start u v first at = grind (arith, nat_tests, first, at)
 
--- two points of the loops have the same cells if each place off the diagonal has changed places at both or at neither
-same_cell : (stride from upto x y j k m n u v : ℕ) → (u ≢ v → is_crossed from upto x y u v ≡ is_crossed j k m n u v) → crossed_cell stride from upto x y u v ≡ crossed_cell stride j k m n u v
-same_cell stride from upto x y j k m n u v alike =
-    elim (eqb_tells u v) [
-      | inl (_, same) ↦ on_diagonal stride from upto x y u v same ∙ sym (on_diagonal stride j k m n u v same)
-      | inr (_, other) ↦ ap (λ b. if b then u * stride + v else v * stride + u) (alike other)
-    ]
+-- and is at its end where the next one begins
+cell_at_end : (stride from upto x y u v : ℕ) → upto ≤ x → crossed_cell stride from upto x y u v ≡ crossed_cell stride from upto 0 (y + 1) u v
+cell_at_end stride from upto x y u v wide = grind (arith, nat_tests, wide)
 
--- a pair is done at one point of the loops where it is done at another
-same_crossed : (from upto x y j k m n u v : ℕ) → u ≢ v → ((a b : ℕ) → b < a → ((a ≡ u) × (b ≡ v)) ⊎ ((a ≡ v) × (b ≡ u)) → is_done from upto x y a b ≡ is_done j k m n a b) → is_crossed from upto x y u v ≡ is_crossed j k m n u v
-same_crossed from upto x y j k m n u v other alike =
-    elim (cases_lt v u) [
-      | inl below ↦
-          let hit : nat_lt v u ≡ true = grind (arith, nat_tests, below) in
-          cond-true (nat_lt v u) _ _ hit ∙ alike u v below (inl (refl, refl)) ∙ sym (cond-true (nat_lt v u) _ _ hit)
-      | inr above ↦
-          let miss : nat_lt v u ≡ false = grind (arith, nat_tests, above) in
-          cond-false (nat_lt v u) _ _ miss ∙ alike v u (omega (arith, above, λ (e : v ≡ u). other (sym e))) (inr (refl, refl)) ∙ sym (cond-false (nat_lt v u) _ _ miss)
-    ]
-
--- at the start of a row of the strip
-done_at_start : (from upto y a b : ℕ) → b < a → is_done from upto 0 y a b ≡ is_done from upto (max from (y + 1)) y a b
-done_at_start from upto y a b below = grind (arith, nat_tests, below)
-
--- at its end
-done_at_end : (from upto x y a b : ℕ) → b < a → upto ≤ x → is_done from upto x y a b ≡ is_done from upto 0 (y + 1) a b
-done_at_end from upto x y a b below wide = grind (arith, nat_tests, below, wide)
-
--- a pair other than the next one
-done_more : (from upto x y a b : ℕ) → ((a ≡ x) × (b ≡ y) → ⊥) → is_done from upto x y a b ≡ is_done from upto (x + 1) y a b
-done_more from upto x y a b other = grind (arith, nat_tests, other)
+-- a place that is in no next pair
+other_cell : (stride from upto x y u v : ℕ) → ((u ≡ x) × (v ≡ y) → ⊥) → ((u ≡ y) × (v ≡ x) → ⊥) → crossed_cell stride from upto x y u v ≡ crossed_cell stride from upto (x + 1) y u v
+other_cell stride from upto x y u v not_first not_second = grind (arith, nat_tests, not_first, not_second)
 
 -- two cells that are exchanged
 second_of : (i j : ℕ) → swapped_column i j j ≡ i
@@ -98,22 +74,14 @@ module _ {T : Type 0} (s : Shape) where
 
   module _ (old now : List T) (from upto x y : ℕ) (so : CrossedUpto from upto x y old now s) where
     -- the same pairs, said by another point of the loops
-    same_pairs : (j k m n : ℕ) → ((a b : ℕ) → b < a → is_done from upto x y a b ≡ is_done j k m n a b) → CrossedUpto j k m n old now s
-    same_pairs j k m n alike = record {
-      as_many = so.as_many;
-      each = λ u v column line.
-          so.each u v column line
-          ∙ ap (slice_get old) (same_cell s.stride from upto x y j k m n u v (λ other. same_crossed from upto x y j k m n u v other (λ a b below one. alike a b below)));
-      others = so.others;
-    }
+    same_pairs : (m n : ℕ) → ((u v : ℕ) → crossed_cell s.stride from upto x y u v ≡ crossed_cell s.stride from upto m n u v) → CrossedUpto from upto m n old now s
+    same_pairs m n alike = record { as_many = so.as_many; each = λ u v column line. so.each u v column line ∙ ap (slice_get old) (alike u v); others = so.others }
 
-    -- a row of the strip begins at its first column, and to the right of the diagonal
     pub row_begins : (start : ℕ) → x ≡ 0 → start ≡ max from (y + 1) → CrossedUpto from upto start y old now s
-    row_begins start first at = same_pairs from upto start y (λ a b below. ap (λ n. is_done from upto n y a b) first ∙ done_at_start from upto y a b below ∙ ap (λ n. is_done from upto n y a b) (sym at))
+    row_begins start first at = same_pairs start y (λ u v. cell_at_start s.stride from upto x y start u v first at)
 
-    -- and is at its end where the next one begins
     pub row_crossed : upto ≤ x → CrossedUpto from upto 0 (y + 1) old now s
-    row_crossed wide = same_pairs from upto 0 (y + 1) (λ a b below. done_at_end from upto x y a b below wide)
+    row_crossed wide = same_pairs 0 (y + 1) (λ u v. cell_at_end s.stride from upto x y u v wide)
 
     -- one pair more
     module _ (fits : Fits (shaped old s)) (square : s.width ≡ s.height) (right : y < x) (after : from ≤ x) (here : x < upto) (column : x < s.width) (i j : ℕ) (is_i : i ≡ y * s.stride + x) (is_j : j ≡ x * s.stride + y) where
@@ -153,13 +121,7 @@ module _ {T : Type 0} (s : Shape) where
                     | inr not_second ↦
                         let not_i : v * s.stride + u ≢ i = λ e. let p = same_from_place v u y x s.stride (omega (arith, s.holds_width)) (omega (arith, s.holds_width)) (e ∙ is_i) in not_first (p.1, p.0) in
                         let not_j : v * s.stride + u ≢ j = λ e. let p = same_from_place v u x y s.stride (omega (arith, s.holds_width)) (omega (arith, s.holds_width)) (e ∙ is_j) in not_second (p.1, p.0) in
-                        other_stays (v * s.stride + u) not_i not_j ∙ so.each u v in_u in_v
-                        ∙ ap (slice_get old) (same_cell s.stride from upto x y from upto (x + 1) y u v (λ other.
-                        same_crossed from upto x y from upto (x + 1) y u v other (λ a b below one. done_more from upto x y a b (λ e.
-                        elim one [
-                          | inl f ↦ not_first (sym f.0 ∙ e.0, sym f.1 ∙ e.1)
-                          | inr f ↦ not_second (sym f.1 ∙ e.1, sym f.0 ∙ e.0)
-                        ]))))
+                        other_stays (v * s.stride + u) not_i not_j ∙ so.each u v in_u in_v ∙ ap (slice_get old) (other_cell s.stride from upto x y u v not_first not_second)
                   ]
             ]
 

@@ -1,19 +1,19 @@
 -- Squares of which blocks of 16 by 16 pixels change places with those across the diagonal, pair by pair.
-use Rattle.std.proofs.Common.{◌≡◌, ℕ, ◌+◌, ◌*◌, ◌/◌, ◌<◌, ◌≤◌, Bool, true, false, List, Option, sym, ap, ◌∙◌, arith, inl, inr, nat_lt, if◌then◌else◌, ◌||◌, ◌&&◌, max, min}
-use Rattle.std.proofs.lemmas.Bool.{cases_Bool, cases_lt, cond-true, true≢false}
+use Rattle.std.proofs.Common.{◌≡◌, ℕ, ◌+◌, ◌*◌, ◌/◌, ◌<◌, ◌≤◌, Bool, true, false, List, Option, sym, ap, ◌∙◌, arith, nat_lt, if◌then◌else◌, ◌||◌, ◌&&◌, max, min}
+use Rattle.std.proofs.lemmas.Bool.{cond-true}
 use Rattle.std.proofs.lemmas.Bool.Decides.{nat_tests}
 use Rattle.image_model.specs.Layout.{pixel}
-use Rattle.image_model.specs.Grid.{Grid, grid, grid_of, covers, view}
+use Rattle.image_model.specs.Grid.{Grid, grid, grid_of, view}
 use Rattle.image_model.specs.Tables.{is_before}
 use Rattle.image_model.specs.Turns.{transposed}
 use Rattle.image_model.specs.Windows.{Window, window_view}
-use Rattle.image_model.proofs.Grids.{at_place, covers_decides, pixel_at, same_grids}
+use Rattle.image_model.proofs.Grids.{at_place, pixel_at, same_grids}
 use Rattle.image_model.proofs.Places.{outside_trans}
 use Rattle.image_shape.specs.Shape.{shaped, shaped_grid}
 use Rattle.image_shape.specs.declared.shape.Shape.{Shape}
 use Rattle.image_turns.specs.Blocks.{read_over, is_across, crossed_at, corner_crossed, is_in_strip, strip_crossed}
 use Rattle.image_writes.specs.Written.{Becomes}
-use Rattle.image_turns.proofs.PlacesCrossed.{PlacesCrossed, crossed_pixel, both_false, no_place_crossed, same_places, blocks_crossed}
+use Rattle.image_turns.proofs.PlacesCrossed.{PlacesCrossed, crossed_pixel, no_place_crossed, same_places, blocks_crossed}
 
 -- rows that are read in their order
 pub read_plain : {T : Type 0} (w h : ℕ) (f : ℕ → ℕ → Option T) → read_over false (grid w h f) ≡ grid w h f
@@ -72,42 +72,12 @@ max_comm a b = omega arith
 min_comm : (a b : ℕ) → min a b ≡ min b a
 min_comm a b = omega arith
 
--- the block of a place
-column_of : (x u : ℕ) → 16 * x ≤ u → u < 16 * x + 16 → u / 16 ≡ x
-column_of x u from upto = omega (arith, from, upto)
-
-block_from : (x u : ℕ) → u / 16 ≡ x → 16 * x ≤ u
-block_from x u same = omega (arith, same)
-
-block_upto : (x u : ℕ) → u / 16 ≡ x → u < 16 * x + 16
-block_upto x u same = omega (arith, same)
-
 -- a place is in the block or across from it where their pair is this one
 pair_of : (x y u v : ℕ) → y ≤ x → is_across (16 * x) (16 * y) 16 16 u v ≡ true → (max (u / 16) (v / 16) ≡ x) × (min (u / 16) (v / 16) ≡ y)
-pair_of x y u v below hit =
-    elim (cases_Bool (covers (16 * x) (16 * y) 16 16 u v)) [
-      | inl upper ↦
-          let c = (covers_decides (16 * x) (16 * y) 16 16 u v).0 upper in
-          let in_u = column_of x u c.0 c.2 in
-          let in_v = column_of y v c.1 c.3 in
-          (omega (arith, in_u, in_v, below), omega (arith, in_u, in_v, below))
-      | inr not_upper ↦
-          let c = (covers_decides (16 * y) (16 * x) 16 16 u v).0 (ap (λ b. b || covers (16 * y) (16 * x) 16 16 u v) (sym not_upper) ∙ hit) in
-          let in_u = column_of y u c.0 c.2 in
-          let in_v = column_of x v c.1 c.3 in
-          (omega (arith, in_u, in_v, below), omega (arith, in_u, in_v, below))
-    ]
-
-block_covers : (x y u v : ℕ) → u / 16 ≡ x → v / 16 ≡ y → covers (16 * x) (16 * y) 16 16 u v ≡ true
-block_covers x y u v column line = (covers_decides (16 * x) (16 * y) 16 16 u v).1 (block_from x u column, block_from y v line, block_upto x u column, block_upto y v line)
+pair_of x y u v below hit = (grind (arith, nat_tests, below, hit), grind (arith, nat_tests, below, hit))
 
 not_pair : (x y u v : ℕ) → is_across (16 * x) (16 * y) 16 16 u v ≡ false → (max (u / 16) (v / 16) ≡ x) × (min (u / 16) (v / 16) ≡ y) → ⊥
-not_pair x y u v miss same =
-    let none = both_false (covers (16 * x) (16 * y) 16 16 u v) (covers (16 * y) (16 * x) 16 16 u v) miss in
-    elim (cases_lt (u / 16) (v / 16)) [
-      | inl above ↦ true≢false (sym (block_covers y x u v (omega (arith, above, same.1)) (omega (arith, above, same.0))) ∙ none.1)
-      | inr below ↦ true≢false (sym (block_covers x y u v (omega (arith, below, same.0)) (omega (arith, below, same.1))) ∙ none.0)
-    ]
+not_pair x y u v miss same = grind (arith, nat_tests, miss, same)
 
 module _ {T : Type 0} (s : Shape) where
   -- no pair yet
