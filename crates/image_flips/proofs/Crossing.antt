@@ -1,6 +1,7 @@
 -- Cells that change places, and rows of which each cell is taken from the same row.
-use Rattle.std.proofs.Common.{◌≡◌, ℕ, ◌+◌, ◌-◌, ◌*◌, ◌<◌, ◌≤◌, ◌⊎◌, List, length, set, take, drop, Option, sym, ap, ◌∙◌, arith, length-set, inl, inr, Some}
+use Rattle.std.proofs.Common.{◌≡◌, ℕ, ◌+◌, ◌-◌, ◌*◌, ◌<◌, ◌≤◌, ◌⊎◌, List, length, set, take, drop, Option, sym, subst, ap, ◌∙◌, arith, length-set, inl, inr, Some}
 use Rattle.std.specs.List.{slice_get}
+use borrow.Rule.Slice.PartMut.{put_mid}
 use Rattle.std.proofs.lemmas.Bool.{cases_lt}
 use Rattle.std.proofs.lemmas.Bool.Decides.{eqb_tells, nat_tests}
 use Rattle.image_model.proofs.Cells.{slice_get-take, slice_get-drop, slice_get-set_same, slice_get-set_other}
@@ -11,7 +12,8 @@ use Rattle.image_model.specs.Windows.{Stretch, with_stretch}
 use Rattle.image_model.proofs.Stretches.{length-with_stretch, with_stretch_at, with_stretch_beside}
 use Rattle.image_model.proofs.Grids.{pixel_at, same_grids}
 use Rattle.image_shape.specs.declared.shape.Shape.{Shape}
-use Rattle.image_writes.specs.Gathered.{AreGathered, from_end, mirrored_place}
+use Rattle.image_writes.specs.Gathered.{AreGathered, mirrored_place}
+use Rattle.image_writes.proofs.Gathering.{written}
 use Rattle.image_writes.proofs.RowsWritten.{RowsDone, RowRange, cell_of_row}
 
 -- ---- cells that change places with those at the same distance from the other end
@@ -31,10 +33,14 @@ mirrored_within n from upto k below = grind (arith, nat_tests)
 pub mirrored_twice : (n from middle upto k : ℕ) → from ≤ middle → middle ≤ upto → k < n → mirrored_place n from middle (mirrored_place n middle upto k) ≡ mirrored_place n from upto k
 mirrored_twice n from middle upto k first second below = grind (arith, nat_tests)
 
-mirrored_here : (n from upto k : ℕ) → from ≤ from_end n k → from_end n k < upto → mirrored_place n from upto k ≡ n - 1 - k
-mirrored_here n from upto k above below = grind (arith, nat_tests)
+-- of two blocks that change places each cell comes from the other one, and the others stay
+pub mirrored_front : (n done many last j : ℕ) → last ≡ n - done - many → 2 * done + many ≤ n → j < many → done + (many - 1 - j) ≡ mirrored_place n done (done + many) (last + j)
+mirrored_front n done many last j is_last inside below = grind (arith, nat_tests)
 
-mirrored_stays : (n done many last k : ℕ) → last ≡ n - done - many → 2 * done + many ≤ n → k < n → (k < done) ⊎ (done + many ≤ k) → (k < last) ⊎ (last + many ≤ k) → mirrored_place n done (done + many) k ≡ k
+pub mirrored_rear : (n done many last j : ℕ) → last ≡ n - done - many → 2 * done + many ≤ n → j < many → last + (many - 1 - j) ≡ mirrored_place n done (done + many) (done + j)
+mirrored_rear n done many last j is_last inside below = grind (arith, nat_tests)
+
+pub mirrored_stays : (n done many last k : ℕ) → last ≡ n - done - many → 2 * done + many ≤ n → k < n → (k < done) ⊎ (done + many ≤ k) → (k < last) ⊎ (last + many ≤ k) → mirrored_place n done (done + many) k ≡ k
 mirrored_stays n done many last k is_last inside here first second = grind (arith, nat_tests)
 
 -- all cells have changed places
@@ -57,94 +63,56 @@ mirrored_rest n done more k reached below = grind (arith, nat_tests)
 pub mirrored_none : (n done k : ℕ) → n < 2 * done + 2 → k < n → mirrored_place n done n k ≡ k
 mirrored_none n done k few below = grind (arith, nat_tests)
 
--- cell j of a block that was read from a stretch, from its last cell on
-pub turned_from : {T : Type 0} (old block : List T) (start many upto n : ℕ) → many ≡ n → upto ≡ n → length block ≡ n → AreGathered (λ k. upto - 1 - k) (take many (drop start old)) block
-    → (j : ℕ) → j < n → slice_get block j ≡ slice_get old (start + (n - 1 - j))
-turned_from old block start many upto n is_many is_upto long so j below =
-    so.each j (omega (arith, long, below))
-    ∙ slice_get-take many (drop start old) (upto - 1 - j) (omega (arith, is_many, is_upto, below))
-    ∙ slice_get-drop start old (upto - 1 - j)
-    ∙ ap (λ m. slice_get old (start + (m - 1 - j))) is_upto
+-- a block has the cells of a stretch, in this order
+pub record HasStretch {T : Type 0} (order : ℕ → ℕ) (old : List T) (start n : ℕ) (block : List T) : Type 0 where
+  pub many : length block ≡ n
+  pub each : (j : ℕ) → j < n → slice_get block j ≡ slice_get old (start + order j)
 
--- two blocks are written, one after the other
-module _ {T : Type 0} (old : List T) (done n last : ℕ) (order : done ≤ last) (inside : last + n ≤ length old) (front back : List T) (front_many : length front ≡ n) (back_many : length back ≡ n) where
-  abbrev first : Stretch
-  first = record { start = done; len = n }
+-- so does one that was gathered from that part of the row
+pub gathered_stretch : {T : Type 0} {order : ℕ → ℕ} {old block : List T} (start many n : ℕ) → many ≡ n → length block ≡ n → ((j : ℕ) → j < n → order j < n) → AreGathered order (take many (drop start old)) block → HasStretch order old start n block
+gathered_stretch {order = order} {old = old} start many n is_many long within so = record {
+  many = long;
+  each = λ j below.
+      so.each j (omega (arith, long, below)) ∙ slice_get-take many (drop start old) (order j) (omega (arith, is_many, within j below)) ∙ slice_get-drop start old (order j);
+}
 
-  abbrev second : Stretch
-  second = record { start = last; len = n }
+-- each cell of a list of which a stretch was written
+pub each_written : {T : Type 0} (P : ℕ → Option T → Type 0) (cells block : List T) (start n : ℕ) → start + n ≤ length cells → length block ≡ n → ((j : ℕ) → j < n → P (start + j) (slice_get block j))
+    → (k : ℕ) → ((k < start) ⊎ (start + n ≤ k) → P k (slice_get cells k)) → P k (slice_get (with_stretch cells (record { start = start; len = n }) block) k)
+each_written P cells block start n inside long shows k beside =
+    let s : Stretch = record { start = start; len = n } in
+    let stays = λ (out : (k < start) ⊎ (start + n ≤ k)). subst (P k) (sym (with_stretch_beside cells s block inside long k out)) (beside out) in
+    elim (cases_lt k start) [
+      | inl before ↦ stays (inl before)
+      | inr from ↦
+          elim (cases_lt k (start + n)) [
+            | inr after ↦ stays (inr after)
+            | inl upto ↦
+                let at : start + (k - start) ≡ k = omega (arith, from) in
+                let here : k - start < n = omega (arith, from, upto) in
+                subst (λ m. P m (slice_get (with_stretch cells s block) m)) at (subst (P (start + (k - start))) (sym (with_stretch_at cells s block inside (k - start) (omega (arith, here, long)))) (shows (k - start) here))
+          ]
+    ]
 
-  abbrev half : List T
-  half = with_stretch old first back
-
-  abbrev pub both_written : List T
-  both_written = with_stretch half second front
-
-  half_inside : done + n ≤ length old
-  half_inside = omega (arith, order, inside)
-
-  half_many : length half ≡ length old
-  half_many = length-with_stretch old first back half_inside back_many
-
-  in_half : last + n ≤ length half
-  in_half = omega (arith, half_many, inside)
-
-  pub both_many : length both_written ≡ length old
-  both_many = length-with_stretch half second front in_half front_many ∙ half_many
-
-  -- each cell of a block comes from where its place says, and the others stay
-  pub both_gathered : (place : ℕ → ℕ) → ((j : ℕ) → j < n → slice_get front j ≡ slice_get old (place (last + j))) → ((j : ℕ) → j < n → slice_get back j ≡ slice_get old (place (done + j)))
-      → ((k : ℕ) → k < length old → (k < done) ⊎ (done + n ≤ k) → (k < last) ⊎ (last + n ≤ k) → place k ≡ k) → AreGathered place old both_written
-  both_gathered place front_from back_from stays = record {
-    each = λ k below.
-        let here : k < length old = omega (arith, below, both_many) in
-        elim (cases_lt k last) [
-          | inr upper ↦
-              elim (cases_lt k (last + n)) [
-                | inl within ↦
-                    let at : last + (k - last) ≡ k = omega (arith, upper) in
-                    ap (slice_get both_written) (sym at)
-                    ∙ with_stretch_at half second front in_half (k - last) (omega (arith, upper, within, front_many))
-                    ∙ front_from (k - last) (omega (arith, upper, within))
-                    ∙ ap (λ m. slice_get old (place m)) at
-                | inr after ↦
-                    with_stretch_beside half second front in_half front_many k (inr after)
-                    ∙ with_stretch_beside old first back half_inside back_many k (inr (omega (arith, after, order)))
-                    ∙ ap (slice_get old) (sym (stays k here (inr (omega (arith, after, order))) (inr after)))
-              ]
-          | inl lower ↦
-              with_stretch_beside half second front in_half front_many k (inl lower)
-              ∙ elim (cases_lt k done) [
-                | inl before ↦ with_stretch_beside old first back half_inside back_many k (inl before) ∙ ap (slice_get old) (sym (stays k here (inl before) (inl lower)))
-                | inr from_done ↦
-                    elim (cases_lt k (done + n)) [
-                      | inl within ↦
-                          let at : done + (k - done) ≡ k = omega (arith, from_done) in
-                          ap (slice_get half) (sym at)
-                          ∙ with_stretch_at old first back half_inside (k - done) (omega (arith, from_done, within, back_many))
-                          ∙ back_from (k - done) (omega (arith, from_done, within))
-                          ∙ ap (λ m. slice_get old (place m)) at
-                      | inr between ↦ with_stretch_beside old first back half_inside back_many k (inr between) ∙ ap (slice_get old) (sym (stays k here (inr between) (inl lower)))
-                    ]
-              ]
-        ];
-  }
-
--- two blocks are written that were read from their last cell on
-module _ {T : Type 0} (old : List T) (done n last : ℕ) (inside : 2 * done + n ≤ length old) (is_last : last ≡ length old - done - n) (front back : List T) (front_many : length front ≡ n) (back_many : length back ≡ n)
-    (front_from : (j : ℕ) → j < n → slice_get front j ≡ slice_get old (done + (n - 1 - j))) (back_from : (j : ℕ) → j < n → slice_get back j ≡ slice_get old (last + (n - 1 - j))) where
-  pub blocks_crossed : AreGathered (mirrored_place (length old) done (done + n)) old (with_stretch (with_stretch old (record { start = done; len = n }) back) (record { start = last; len = n }) front)
-  blocks_crossed =
-      both_gathered old done n last (omega (arith, is_last, inside)) (omega (arith, is_last, inside)) front back front_many back_many (mirrored_place (length old) done (done + n))
-      (λ j below.
-      let from : done + (n - 1 - j) ≡ length old - 1 - (last + j) = omega (arith, below, is_last, inside) in
-      front_from j below
-      ∙ ap (slice_get old) (from ∙ sym (mirrored_here (length old) done (done + n) (last + j) (omega (arith, below, is_last, inside)) (omega (arith, below, is_last, inside)))))
-      (λ j below.
-      let from : last + (n - 1 - j) ≡ length old - 1 - (done + j) = omega (arith, below, is_last, inside) in
-      back_from j below
-      ∙ ap (slice_get old) (from ∙ sym (mirrored_here (length old) done (done + n) (done + j) (omega (arith, below, is_last, inside)) (omega (arith, below)))))
-      (λ k here first second. mirrored_stays (length old) done n last k is_last inside here first second)
+-- two blocks are written, each over the stretch of which the other one has the cells
+pub blocks_crossed : {T : Type 0} {order : ℕ → ℕ} {old front back : List T} (place : ℕ → ℕ) (done n last : ℕ) → 2 * done + n ≤ length old → last ≡ length old - done - n → HasStretch order old done n front → HasStretch order old last n back
+    → ((j : ℕ) → j < n → done + order j ≡ place (last + j)) → ((j : ℕ) → j < n → last + order j ≡ place (done + j)) → ((k : ℕ) → k < length old → (k < done) ⊎ (done + n ≤ k) → (k < last) ⊎ (last + n ≤ k) → place k ≡ k)
+    → AreGathered place old (put_mid last (last + n - last) (put_mid done (done + n - done) old back) front)
+blocks_crossed {T} {old = old} {front} {back} place done n last inside is_last has_front has_back to_last to_done stays =
+    let first : Stretch = record { start = done; len = n } in
+    let half : List T = with_stretch old first back in
+    let many : length half ≡ length old = length-with_stretch old first back (omega (arith, inside)) has_back.many in
+    let ends : last + n ≤ length half = omega (arith, many, is_last, inside) in
+    let both : List T = with_stretch half (record { start = last; len = n }) front in
+    let as_many : length both ≡ length old = length-with_stretch half (record { start = last; len = n }) front ends has_front.many ∙ many in
+    let P : ℕ → Option T → Type 0 = λ k p. p ≡ slice_get old (place k) in
+    subst (AreGathered place old) (sym (written (put_mid done (done + n - done) old back) front last (last + n - last) n (omega arith) ∙ ap (λ cells. with_stretch cells (record { start = last; len = n }) front) (written old back done (done + n - done) n (omega arith))))
+    (record {
+      each = λ k below.
+          each_written P half front last n ends has_front.many (λ j here. has_front.each j here ∙ ap (slice_get old) (to_last j here)) k (λ second.
+          each_written P old back done n (omega (arith, inside)) has_back.many (λ j here. has_back.each j here ∙ ap (slice_get old) (to_done j here)) k (λ first.
+          ap (slice_get old) (sym (stays k (omega (arith, below, as_many)) first second))));
+    })
 
 -- ---- rows of which each cell is taken from the same row
 

@@ -1,27 +1,22 @@
 -- Pixels of three cells that change places with those at the same distance from the other end.
-use Rattle.std.proofs.Common.{◌≡◌, ℕ, min, inl, inr, ◌+◌, ◌-◌, ◌*◌, ◌%◌, ◌<◌, ◌≤◌, ◌⊎◌, List, length, take, drop, sym, ap, ◌∙◌, arith}
+use Rattle.std.proofs.Common.{◌≡◌, ℕ, min, ◌+◌, ◌-◌, ◌*◌, ◌%◌, ◌<◌, ◌≤◌, ◌⊎◌, List, length, take, drop, sym, subst, ap, ◌∙◌, arith}
 use Rattle.std.specs.List.{slice_get}
-use Rattle.std.proofs.lemmas.Bool.{cases_lt}
 use Rattle.std.proofs.lemmas.Bool.Decides.{nat_tests}
-use Rattle.image_model.proofs.Cells.{slice_get-take, slice_get-drop}
-use Rattle.image_model.specs.Windows.{Stretch, with_stretch}
-use Rattle.image_model.proofs.Stretches.{length-with_stretch, with_stretch_at, with_stretch_beside}
+use Rattle.image_model.specs.Windows.{with_stretch}
+use Rattle.image_model.proofs.Stretches.{length-with_stretch}
 use Rattle.image_writes.specs.Gathered.{AreGathered, from_end}
 use Rattle.image_writes.proofs.Gathering.{GatheredTo}
 use Rattle.image_flips.specs.Triples.{triple_back, mirrored_triple}
+use Rattle.image_flips.proofs.Crossing.{HasStretch, gathered_stretch, each_written}
 
 -- a block has its own cells
 pub triple_in : (n k : ℕ) → n % 3 ≡ 0 → k < n → triple_back n k < n
 triple_in n k whole below = omega (arith, whole, below)
 
--- cell j of a block that was read from a stretch, with its pixels in the opposite order
-pub triple_read : {T : Type 0} (old part block : List T) (start many n : ℕ) → length block ≡ n → many ≡ n → part ≡ take many (drop start old) → AreGathered (triple_back n) part block → n % 3 ≡ 0
-    → (j : ℕ) → j < n → slice_get block j ≡ slice_get old (start + triple_back n j)
-triple_read old part block start many n long is_many is so whole j below =
-    so.each j (omega (arith, long, below))
-    ∙ ap (λ cells. slice_get cells (triple_back n j)) is
-    ∙ slice_get-take many (drop start old) (triple_back n j) (omega (arith, is_many, triple_in n j whole below))
-    ∙ slice_get-drop start old (triple_back n j)
+-- a block that was read from a stretch, with its pixels in the opposite order
+pub triple_read : {T : Type 0} {old part turned block : List T} (start many n : ℕ) → many ≡ n → n % 3 ≡ 0 → part ≡ take many (drop start old) → length turned ≡ n → AreGathered (triple_back n) part turned → block ≡ turned → HasStretch (triple_back n) old start n block
+triple_read {old = old} {turned = turned} start many n is_many whole read long so is =
+    subst (HasStretch (triple_back n) old start n) (sym is) (gathered_stretch start many n is_many long (λ j. triple_in n j whole) (subst (λ cells. AreGathered (triple_back n) cells turned) read so))
 
 triple_here : (n from upto k : ℕ) → from ≤ from_end n k → from_end n k < upto → mirrored_triple n from upto k ≡ triple_back n k
 triple_here n from upto k above below = grind (arith, nat_tests)
@@ -61,22 +56,14 @@ pub triple_none : (n done k : ℕ) → n % 3 ≡ 0 → done % 3 ≡ 0 → n < 2 
 triple_none n done k n_whole done_whole few below = grind (arith, nat_tests, n_whole, done_whole)
 
 -- one block more of pixels that come from a source; the last one may begin before those so far end
-pub triple_block : {T : Type 0} (source old now block : List T) (n done next at : ℕ) → length old ≡ n → n % 3 ≡ 0 → done % 3 ≡ 0 → 48 ≤ n → next ≡ done + 48 → at ≡ min done (n - 48) → length block ≡ 48
-    → ((j : ℕ) → j < 48 → slice_get block j ≡ slice_get source (n - 48 - at + triple_back 48 j)) → GatheredTo (triple_back n) source old now (min done n)
-    → GatheredTo (triple_back n) source old (with_stretch now (record { start = at; len = 48 }) block) (min next n)
-triple_block source old now block n done next at many whole done_whole room is_next is_at long shows so =
-    let s : Stretch = record { start = at; len = 48 } in
+pub triple_block : {T : Type 0} (source old now block : List T) (n done next at : ℕ) → length old ≡ n → n % 3 ≡ 0 → done % 3 ≡ 0 → 48 ≤ n → next ≡ done + 48 → at ≡ min done (n - 48) → HasStretch (triple_back 48) source (n - 48 - at) 48 block
+    → GatheredTo (triple_back n) source old now (min done n) → GatheredTo (triple_back n) source old (with_stretch now (record { start = at; len = 48 }) block) (min next n)
+triple_block source old now block n done next at many whole done_whole room is_next is_at has so =
     let within : at + 48 ≤ length now = omega (arith, so.as_many, many, is_at, room) in
     record {
-      as_many = length-with_stretch now s block within long ∙ so.as_many;
+      as_many = length-with_stretch now (record { start = at; len = 48 }) block within has.many ∙ so.as_many;
       each = λ k below.
-          elim (cases_lt k at) [
-            | inl before ↦ with_stretch_beside now s block within long k (inl before) ∙ so.each k (omega (arith, before, is_at, room))
-            | inr here ↦
-                let j : ℕ = k - at in
-                let is : at + j ≡ k = omega (arith, here) in
-                let few : j < 48 = omega (arith, here, below, is_next, is_at, room) in
-                let from : n - 48 - at + triple_back 48 j ≡ triple_back n k = omega (arith, is, few, whole, done_whole, is_at, room) in
-                ap (slice_get (with_stretch now s block)) (sym is) ∙ with_stretch_at now s block within j (omega (arith, few, long)) ∙ shows j few ∙ ap (slice_get source) from
-          ];
+          each_written (λ k p. p ≡ slice_get source (triple_back n k)) now block at 48 within has.many
+          (λ j few. has.each j few ∙ ap (slice_get source) (let from : n - 48 - at + triple_back 48 j ≡ triple_back n (at + j) = omega (arith, few, whole, done_whole, is_at, room) in from))
+          k (λ beside. so.each k (omega (arith, beside, below, is_next, is_at, room)));
     }

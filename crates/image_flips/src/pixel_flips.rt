@@ -10,6 +10,7 @@ ghost use Rattle.image_shape.specs.Shape.{shape_width, shape_height, shape_strid
 ghost use Rattle.image_shape.specs.Window.{as_window};
 ghost use Rattle.image_writes.specs.Gathered.{AreGathered};
 ghost use Rattle.image_writes.specs.Mirrored.{mirrored_by};
+ghost use Rattle.image_writes.specs.Written.{Becomes};
 
 use crate::flipping::{flip_columns, flip_rows};
 use crate::parts::exact_part;
@@ -38,8 +39,7 @@ fn flip_pixels<T: Copy, const N: usize>(cells: &mut [T], shape: Shape)
     requires width { shape_width shape ≡ N }
     requires stride { shape_stride shape ≡ N }
     requires fits { Fits (shaped cells.old shape) }
-    ensures grid { shaped_grid cells.new shape ≡ flipped (shaped_grid cells.old shape) }
-    ensures outside { SameOutside (shaped cells.old shape) (shaped cells.new shape) }
+    ensures { Becomes shape cells.old cells.new (flipped (shaped_grid cells.old shape)) }
 {
     let height = shape.height();
     for y in 0..height / 2 {
@@ -53,8 +53,7 @@ fn flip_sized<T: Copy, const N: usize>(cells: &mut [T], shape: Shape)
     requires width { 0 < N → shape_width shape ≡ N }
     requires stride { 0 < N → shape_stride shape ≡ N }
     requires fits { Fits (shaped cells.old shape) }
-    ensures grid { shaped_grid cells.new shape ≡ flipped (shaped_grid cells.old shape) }
-    ensures outside { SameOutside (shaped cells.old shape) (shaped cells.new shape) }
+    ensures { Becomes shape cells.old cells.new (flipped (shaped_grid cells.old shape)) }
 {
     if N > 0 {
         flip_pixels::<T, N>(cells, shape);
@@ -100,8 +99,7 @@ fn reverse_rows<T: Copy, const N: usize, const BLOCKS: bool>(
     requires size_bound { size < 2 ^ 32 }
     requires fits { Fits (shaped cells.old shape) }
     requires width { shape_width shape ≡ columns * size }
-    ensures grid { shaped_grid cells.new shape ≡ mirrored_by size (shaped_grid cells.old shape) }
-    ensures outside { SameOutside (shaped cells.old shape) (shaped cells.new shape) }
+    ensures { Becomes shape cells.old cells.new (mirrored_by size (shaped_grid cells.old shape)) }
 {
     let _width = shape.width();
     for y in 0..shape.row_count() {

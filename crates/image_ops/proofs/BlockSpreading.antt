@@ -1,5 +1,5 @@
 -- A row whose cells become the first ones of their tiles by blocks, which write into the tile after their own.
-use Rattle.std.proofs.Common.{◌≡◌, ℕ, ◌+◌, ◌-◌, ◌*◌, ◌/◌, ◌%◌, ◌<◌, ◌≤◌, ◌⊎◌, inl, inr, List, ◌++◌, length, set, take, drop, replicate, Some, refl, sym, ap, subst, ◌∙◌, arith, drop-drop, length-append, length-take, length-drop}
+use Rattle.std.proofs.Common.{◌≡◌, ℕ, ◌+◌, ◌-◌, ◌*◌, ◌/◌, ◌%◌, ◌<◌, ◌≤◌, ◌⊎◌, inl, inr, List, ◌++◌, length, set, take, drop, replicate, Some, refl, sym, ap, subst, ◌∙◌, arith, length-append, length-take, length-drop}
 use Rattle.std.specs.List.{slice_get}
 use Rattle.std.proofs.lemmas.Bool.{cases_lt}
 use Rattle.std.proofs.lemmas.List.{length-set, length-replicate}
@@ -14,7 +14,7 @@ use Rattle.image_model.proofs.Cells.{slice_get-set_same, slice_get-set_other, sl
 use Rattle.image_model.proofs.Stretches.{length-with_stretch, with_stretch_beside}
 use Rattle.image_writes.specs.Mosaic.{IsSpread}
 use Rattle.image_writes.proofs.Corners.{first_start, start_of, next_start}
-use Rattle.image_ops.proofs.Spreading.{filled_cell}
+use Rattle.image_ops.proofs.Spreading.{filled_cell, filled_part}
 
 -- tiles counted from the beginning of a tile
 module _ (tile c j : ℕ) (some : 0 < tile) where
@@ -71,11 +71,8 @@ module _ {T : Type 0} (tile : ℕ) (some : 0 < tile) (old : List T) where
           }
 
       -- the same of the cells that a loop leaves: those before the block, the block, and those after it
-      pub one_block_more : SpreadAhead tile old (take corner now ++ (replicate len pixel ++ drop (corner + len - corner) (drop corner now))) (corner + tile) next
-      one_block_more =
-          let back : corner + len - corner ≡ len = omega arith in
-          let rest : drop (corner + len - corner) (drop corner now) ≡ drop (corner + len) now = ap (λ n. drop n (drop corner now)) back ∙ drop-drop len corner now in
-          subst (λ cells. SpreadAhead tile old cells (corner + tile) next) (λ i. take corner now ++ (replicate len pixel ++ sym rest i)) one_block
+      pub one_block_more : (line : List T) → line ≡ replicate (length (take (corner + len - corner) (drop corner now))) pixel → SpreadAhead tile old (take corner now ++ (line ++ drop (corner + len - corner) (drop corner now))) (corner + tile) next
+      one_block_more line is = subst (λ cells. SpreadAhead tile old cells (corner + tile) next) (sym (filled_part now line corner len pixel (omega (arith, inside, so.as_many)) is)) one_block
 
     -- the cells from the corner on, with the pixel at the corner, are spread at last
     module _ (line : List T) (spread : IsSpread tile (drop corner (set now corner pixel)) line) where

@@ -1,5 +1,5 @@
 -- A row whose cells become the first ones of their tiles, from left to right.
-use Rattle.std.proofs.Common.{◌≡◌, ℕ, ◌+◌, ◌-◌, ◌<◌, ◌≤◌, ◌⊎◌, inl, inr, List, ◌++◌, length, set, take, drop, replicate, Some, refl, sym, ap, subst, ◌∙◌, arith, drop-drop}
+use Rattle.std.proofs.Common.{◌≡◌, ℕ, ◌+◌, ◌-◌, ◌<◌, ◌≤◌, inl, inr, List, ◌++◌, length, min, set, take, drop, replicate, Some, refl, sym, ap, subst, ◌∙◌, arith, length-take, length-drop}
 use Rattle.std.specs.List.{slice_get}
 use Rattle.std.proofs.lemmas.Bool.{cases_lt}
 use Rattle.std.proofs.lemmas.List.{length-set, length-replicate}
@@ -9,6 +9,7 @@ use Rattle.image_model.proofs.Cells.{slice_get-set_other, slice_get-replicate}
 use Rattle.image_model.proofs.Stretches.{length-with_stretch, with_stretch_at, with_stretch_beside}
 use Rattle.image_writes.specs.Mosaic.{IsSpread}
 use Rattle.image_writes.proofs.CellByCell.{one_set}
+use Rattle.image_writes.proofs.Gathering.{written}
 use Rattle.image_writes.proofs.Corners.{first_start, start_of, next_start}
 
 -- the cells before number x are spread, and those from it on are as before; a tile begins at the corner, which shows the pixel
@@ -19,6 +20,13 @@ pub record SpreadUpto {T : Type 0} (tile : ℕ) (old now : List T) (corner x : �
   pub starts : corner < length old → tile_start tile corner ≡ corner
   pub from : corner ≤ x
   pub within : x ≤ corner + tile
+
+-- a part that was filled, as a loop leaves it
+pub filled_part : {T : Type 0} (now line : List T) (corner len : ℕ) (pixel : T) → corner + len ≤ length now → line ≡ replicate (length (take (corner + len - corner) (drop corner now))) pixel
+    → take corner now ++ (line ++ drop (corner + len - corner) (drop corner now)) ≡ with_stretch now (record { start = corner; len = len }) (replicate len pixel)
+filled_part now line corner len pixel inside is =
+    let many : length (take (corner + len - corner) (drop corner now)) ≡ len = omega (arith, inside, length-take (corner + len - corner) (drop corner now), length-drop corner now) in
+    written now line corner (corner + len - corner) len (omega arith) ∙ ap (with_stretch now (record { start = corner; len = len })) (is ∙ ap (λ n. replicate n pixel) many)
 
 module _ {T : Type 0} (tile : ℕ) (some : 0 < tile) (old : List T) where
   -- none yet
@@ -79,7 +87,7 @@ module _ {T : Type 0} (tile : ℕ) (some : 0 < tile) (old : List T) where
               ∙ ap (slice_get old) (sym (start_of tile corner some starts k here in_tile))
         ]
 
-  module _ (now : List T) (corner len : ℕ) (pixel : T) (so : SpreadUpto tile old now corner corner) (shows : slice_get old corner ≡ Some pixel) (below : corner < length old) (few : len ≤ tile) (inside : corner + len ≤ length old) (last : len ≡ tile ⊎ corner + len ≡ length old) where
+  module _ (now : List T) (corner len : ℕ) (pixel : T) (so : SpreadUpto tile old now corner corner) (shows : slice_get old corner ≡ Some pixel) (below : corner < length old) (is_len : len ≡ min tile (length now - corner)) where
     abbrev part : Stretch
     part = record { start = corner; len = len }
 
@@ -89,26 +97,22 @@ module _ {T : Type 0} (tile : ℕ) (some : 0 < tile) (old : List T) where
     -- one tile more
     one_tile : SpreadUpto tile old filled (corner + len) (corner + len)
     one_tile =
-        let within : corner + len ≤ length now = omega (arith, inside, so.as_many) in
+        let within : corner + len ≤ length now = omega (arith, is_len, below, so.as_many) in
         let long : length (replicate len pixel) ≡ len = length-replicate len pixel in
         record {
           as_many = length-with_stretch now part (replicate len pixel) within long ∙ so.as_many;
-          each = λ k upto. filled_cell now corner len pixel within (so.starts below) shows so.each k upto (omega (arith, upto, few));
+          each = λ k upto. filled_cell now corner len pixel within (so.starts below) shows so.each k upto (omega (arith, upto, is_len));
           others = λ k above. with_stretch_beside now part (replicate len pixel) within long k (inr above) ∙ so.others k (omega (arith, above));
-          starts = λ more. elim last [
-            | inl whole ↦ ap (λ n. tile_start tile (corner + n)) whole ∙ next_start tile corner some (so.starts below) ∙ ap (λ n. corner + n) (sym whole)
-            | inr end ↦ absurd (omega (arith, more, end))
-          ];
+          starts = λ more.
+              let whole : len ≡ tile = omega (arith, is_len, more, so.as_many) in
+              ap (λ n. tile_start tile (corner + n)) whole ∙ next_start tile corner some (so.starts below) ∙ ap (λ n. corner + n) (sym whole);
           from = omega arith;
           within = omega arith;
         }
 
     -- the same of the cells that a loop leaves: those before the tile, the tile, and those after it
-    pub one_tile_more : SpreadUpto tile old (take corner now ++ (replicate len pixel ++ drop (corner + len - corner) (drop corner now))) (corner + len) (corner + len)
-    one_tile_more =
-        let back : corner + len - corner ≡ len = omega arith in
-        let rest : drop (corner + len - corner) (drop corner now) ≡ drop (corner + len) now = ap (λ n. drop n (drop corner now)) back ∙ drop-drop len corner now in
-        subst (λ cells. SpreadUpto tile old cells (corner + len) (corner + len)) (λ i. take corner now ++ (replicate len pixel ++ sym rest i)) one_tile
+    pub one_tile_more : (line : List T) → line ≡ replicate (length (take (corner + len - corner) (drop corner now))) pixel → SpreadUpto tile old (take corner now ++ (line ++ drop (corner + len - corner) (drop corner now))) (corner + len) (corner + len)
+    one_tile_more line is = subst (λ cells. SpreadUpto tile old cells (corner + len) (corner + len)) (sym (filled_part now line corner len pixel (omega (arith, is_len, below, so.as_many)) is)) one_tile
 
 -- ---- tiles of two cells
 

@@ -1,6 +1,6 @@
 -- Squares of pixels of several cells of which pairs of blocks change places across the diagonal: by rows of blocks, each from the diagonal on.
 use Rattle.std.proofs.Common.{◌≡◌, ℕ, ◌+◌, ◌-◌, ◌*◌, ◌/◌, ◌%◌, ◌<◌, ◌≤◌, ◌⊎◌, Bool, true, false, List, Option, refl, sym, ap, ◌∙◌, arith, inl, inr, nat_lt, nat_le, if◌then◌else◌, ◌||◌, ◌&&◌, max, min}
-use Rattle.std.proofs.lemmas.Bool.{cases_Bool, cases_lt, cond-true, cond-false, true≢false}
+use Rattle.std.proofs.lemmas.Bool.{cases_Bool, cond-true, cond-false}
 use Rattle.std.proofs.lemmas.Bool.Decides.{nat_tests}
 use Rattle.std.proofs.lemmas.Nat.{mod_below, div_below, div-add-mod', div-mul-add, mod-mul-add, mul-le}
 use Rattle.std.proofs.Math.Nat.{add-mul, mul-div_cancel, le-div_iff_mul-le, div-lt_iff_lt-mul}
@@ -17,7 +17,6 @@ use Rattle.image_turns.specs.Oriented.{oriented}
 use Rattle.image_turns.specs.declared.pixel_turning.Orientation.TheVariants.{Transposed}
 use Rattle.image_writes.specs.Written.{Becomes}
 use Rattle.image_writes.proofs.PixelsOfRows.{cells_within, pixels_of_row}
-use Rattle.image_turns.proofs.PlacesCrossed.{both_false}
 
 -- whether the pair of column a and row b has changed places: its row is one of the first `top`, or one of the first `below` and its column one of the first `left`
 abbrev pub is_done : ℕ → ℕ → ℕ → ℕ → ℕ → Bool
@@ -53,30 +52,11 @@ other_same top below left right a b more other = grind (arith, nat_tests, more, 
 module _ (left top width height : ℕ) (on : ((left ≡ top) × (width ≡ height)) ⊎ (top + height ≤ left)) where
   -- a place is in one of them where the pair has such a column and such a row
   pub across : (u v : ℕ) → is_across left top width height u v ≡ true → (top ≤ min u v) × (min u v < top + height) × (left ≤ max u v) × (max u v < left + width)
-  across u v hit =
-      elim (cases_Bool (covers left top width height u v)) [
-        | inl upper ↦
-            let c = (covers_decides left top width height u v).0 upper in
-            elim on [
-              | inl same ↦ (omega (arith, c, same), omega (arith, c, same), omega (arith, c, same), omega (arith, c, same))
-              | inr right ↦ (omega (arith, c, right), omega (arith, c, right), omega (arith, c, right), omega (arith, c, right))
-            ]
-        | inr not_upper ↦
-            let c = (covers_decides top left height width u v).0 (ap (λ b. b || covers top left height width u v) (sym not_upper) ∙ hit) in
-            elim on [
-              | inl same ↦ (omega (arith, c, same), omega (arith, c, same), omega (arith, c, same), omega (arith, c, same))
-              | inr right ↦ (omega (arith, c, right), omega (arith, c, right), omega (arith, c, right), omega (arith, c, right))
-            ]
-      ]
+  across u v hit = (grind (arith, nat_tests, on, hit), grind (arith, nat_tests, on, hit), grind (arith, nat_tests, on, hit), grind (arith, nat_tests, on, hit))
 
   -- and in none where it hasn't
   pub beside : (u v : ℕ) → is_across left top width height u v ≡ false → (top ≤ min u v) × (min u v < top + height) × (left ≤ max u v) × (max u v < left + width) → ⊥
-  beside u v miss there =
-      let none = both_false (covers left top width height u v) (covers top left height width u v) miss in
-      elim (cases_lt u v) [
-        | inl above ↦ true≢false (sym ((covers_decides top left height width u v).1 (omega (arith, above, there), omega (arith, above, there), omega (arith, above, there), omega (arith, above, there))) ∙ none.1)
-        | inr below ↦ true≢false (sym ((covers_decides left top width height u v).1 (omega (arith, below, there), omega (arith, below, there), omega (arith, below, there), omega (arith, below, there))) ∙ none.0)
-      ]
+  beside u v miss there = grind (arith, nat_tests, on, miss, there)
 
 -- ---- the cells of a window of pixels
 

@@ -1,7 +1,7 @@
 -- Squares of which each place changes places with the one across the diagonal, pair by pair.
 use Rattle.std.proofs.Common.{◌≡◌, ◌≢◌, ℕ, ◌+◌, ◌*◌, ◌<◌, ◌≤◌, ◌⊎◌, Bool, true, false, List, length, refl, sym, ap, ◌∙◌, arith, inl, inr, nat_lt, nat_le, if◌then◌else◌, ◌&&◌, max}
 use Rattle.std.specs.List.{slice_get}
-use Rattle.std.proofs.lemmas.Bool.{cases_lt, cond-true, cond-false}
+use Rattle.std.proofs.lemmas.Bool.{cases_lt}
 use Rattle.std.proofs.lemmas.Bool.Decides.{nat_tests, eqb_tells}
 use Rattle.std.proofs.lemmas.Nat.{same_from_place}
 use Rattle.std.proofs.lemmas.Option.{slice_get_past}
@@ -35,41 +35,17 @@ pub record CrossedUpto {T : Type 0} (from upto x y : ℕ) (old new : List T) (s 
   pub each : (u v : ℕ) → u < s.width → v < s.height → slice_get new (v * s.stride + u) ≡ slice_get old (crossed_cell s.stride from upto x y u v)
   pub others : (k : ℕ) → IsPadding s.width s.height s.stride k → slice_get new k ≡ slice_get old k
 
--- a place on the diagonal keeps its cell
-on_diagonal : (stride from upto x y u v : ℕ) → u ≡ v → crossed_cell stride from upto x y u v ≡ v * stride + u
-on_diagonal stride from upto x y u v same = grind (arith, same)
+-- a row of the strip begins at its first column, and to the right of the diagonal
+cell_at_start : (stride from upto x y start u v : ℕ) → x ≡ 0 → start ≡ max from (y + 1) → crossed_cell stride from upto x y u v ≡ crossed_cell stride from upto start y u v
+cell_at_start stride from upto x y start u v first at = grind (arith, nat_tests, first, at)
 
--- two points of the loops have the same cells if each place off the diagonal has changed places at both or at neither
-same_cell : (stride from upto x y j k m n u v : ℕ) → (u ≢ v → is_crossed from upto x y u v ≡ is_crossed j k m n u v) → crossed_cell stride from upto x y u v ≡ crossed_cell stride j k m n u v
-same_cell stride from upto x y j k m n u v alike =
-    elim (eqb_tells u v) [
-      | inl (_, same) ↦ on_diagonal stride from upto x y u v same ∙ sym (on_diagonal stride j k m n u v same)
-      | inr (_, other) ↦ ap (λ b. if b then u * stride + v else v * stride + u) (alike other)
-    ]
+-- and is at its end where the next one begins
+cell_at_end : (stride from upto x y u v : ℕ) → upto ≤ x → crossed_cell stride from upto x y u v ≡ crossed_cell stride from upto 0 (y + 1) u v
+cell_at_end stride from upto x y u v wide = grind (arith, nat_tests, wide)
 
--- a pair is done at one point of the loops where it is done at another
-same_crossed : (from upto x y j k m n u v : ℕ) → u ≢ v → ((a b : ℕ) → b < a → ((a ≡ u) × (b ≡ v)) ⊎ ((a ≡ v) × (b ≡ u)) → is_done from upto x y a b ≡ is_done j k m n a b) → is_crossed from upto x y u v ≡ is_crossed j k m n u v
-same_crossed from upto x y j k m n u v other alike =
-    elim (cases_lt v u) [
-      | inl below ↦
-          let hit : nat_lt v u ≡ true = grind (arith, nat_tests, below) in
-          cond-true (nat_lt v u) _ _ hit ∙ alike u v below (inl (refl, refl)) ∙ sym (cond-true (nat_lt v u) _ _ hit)
-      | inr above ↦
-          let miss : nat_lt v u ≡ false = grind (arith, nat_tests, above) in
-          cond-false (nat_lt v u) _ _ miss ∙ alike v u (omega (arith, above, λ (e : v ≡ u). other (sym e))) (inr (refl, refl)) ∙ sym (cond-false (nat_lt v u) _ _ miss)
-    ]
-
--- at the start of a row of the strip
-done_at_start : (from upto y a b : ℕ) → b < a → is_done from upto 0 y a b ≡ is_done from upto (max from (y + 1)) y a b
-done_at_start from upto y a b below = grind (arith, nat_tests, below)
-
--- at its end
-done_at_end : (from upto x y a b : ℕ) → b < a → upto ≤ x → is_done from upto x y a b ≡ is_done from upto 0 (y + 1) a b
-done_at_end from upto x y a b below wide = grind (arith, nat_tests, below, wide)
-
--- a pair other than the next one
-done_more : (from upto x y a b : ℕ) → ((a ≡ x) × (b ≡ y) → ⊥) → is_done from upto x y a b ≡ is_done from upto (x + 1) y a b
-done_more from upto x y a b other = grind (arith, nat_tests, other)
+-- a place that is in no next pair
+other_cell : (stride from upto x y u v : ℕ) → ((u ≡ x) × (v ≡ y) → ⊥) → ((u ≡ y) × (v ≡ x) → ⊥) → crossed_cell stride from upto x y u v ≡ crossed_cell stride from upto (x + 1) y u v
+other_cell stride from upto x y u v not_first not_second = grind (arith, nat_tests, not_first, not_second)
 
 -- two cells that are exchanged
 second_of : (i j : ℕ) → swapped_column i j j ≡ i
@@ -83,31 +59,9 @@ same_place u v x y =
       | inr (_, other) ↦ inr (λ e. other e.0)
     ]
 
--- a place is in the strip, past it or before it
-pub strip_cases : (from upto u v : ℕ) → ((u < upto) × (v < upto) × ((from ≤ u) ⊎ (from ≤ v))) ⊎ ((upto ≤ u) ⊎ (upto ≤ v)) ⊎ ((u < from) × (v < from))
-strip_cases from upto u v =
-    elim (cases_lt u upto) [
-      | inr right ↦ inr (inl (inl right))
-      | inl column ↦
-          elim (cases_lt v upto) [
-            | inr below ↦ inr (inl (inr below))
-            | inl line ↦
-                elim (cases_lt u from) [
-                  | inr there ↦ inl (column, line, inl there)
-                  | inl before ↦ elim (cases_lt v from) [ inr there ↦ inl (column, line, inr there) | inl above ↦ inr (inr (before, above)) ]
-                ]
-          ]
-    ]
-
--- and the test says so
-pub strip_true : (from upto u v : ℕ) → u < upto → v < upto → (from ≤ u) ⊎ (from ≤ v) → is_in_strip from upto u v ≡ true
-strip_true from upto u v column line there = elim there [ inl right ↦ grind (arith, nat_tests, column, line, right) | inr below ↦ grind (arith, nat_tests, column, line, below) ]
-
-pub strip_past : (from upto u v : ℕ) → (upto ≤ u) ⊎ (upto ≤ v) → is_in_strip from upto u v ≡ false
-strip_past from upto u v past = elim past [ inl right ↦ grind (arith, nat_tests, right) | inr below ↦ grind (arith, nat_tests, below) ]
-
-pub strip_before : (from upto u v : ℕ) → u < from → v < from → is_in_strip from upto u v ≡ false
-strip_before from upto u v column line = grind (arith, nat_tests, column, line)
+-- once all rows of the strip are done, the places that have changed are those in it
+strip_done : (from upto x y u v : ℕ) → upto ≤ y → is_crossed from upto x y u v ≡ is_in_strip from upto u v
+strip_done from upto x y u v high = grind (arith, nat_tests, high)
 
 module _ {T : Type 0} (s : Shape) where
   -- no pair yet
@@ -120,22 +74,14 @@ module _ {T : Type 0} (s : Shape) where
 
   module _ (old now : List T) (from upto x y : ℕ) (so : CrossedUpto from upto x y old now s) where
     -- the same pairs, said by another point of the loops
-    same_pairs : (j k m n : ℕ) → ((a b : ℕ) → b < a → is_done from upto x y a b ≡ is_done j k m n a b) → CrossedUpto j k m n old now s
-    same_pairs j k m n alike = record {
-      as_many = so.as_many;
-      each = λ u v column line.
-          so.each u v column line
-          ∙ ap (slice_get old) (same_cell s.stride from upto x y j k m n u v (λ other. same_crossed from upto x y j k m n u v other (λ a b below one. alike a b below)));
-      others = so.others;
-    }
+    same_pairs : (m n : ℕ) → ((u v : ℕ) → crossed_cell s.stride from upto x y u v ≡ crossed_cell s.stride from upto m n u v) → CrossedUpto from upto m n old now s
+    same_pairs m n alike = record { as_many = so.as_many; each = λ u v column line. so.each u v column line ∙ ap (slice_get old) (alike u v); others = so.others }
 
-    -- a row of the strip begins at its first column, and to the right of the diagonal
     pub row_begins : (start : ℕ) → x ≡ 0 → start ≡ max from (y + 1) → CrossedUpto from upto start y old now s
-    row_begins start first at = same_pairs from upto start y (λ a b below. ap (λ n. is_done from upto n y a b) first ∙ done_at_start from upto y a b below ∙ ap (λ n. is_done from upto n y a b) (sym at))
+    row_begins start first at = same_pairs start y (λ u v. cell_at_start s.stride from upto x y start u v first at)
 
-    -- and is at its end where the next one begins
     pub row_crossed : upto ≤ x → CrossedUpto from upto 0 (y + 1) old now s
-    row_crossed wide = same_pairs from upto 0 (y + 1) (λ a b below. done_at_end from upto x y a b below wide)
+    row_crossed wide = same_pairs 0 (y + 1) (λ u v. cell_at_end s.stride from upto x y u v wide)
 
     -- one pair more
     module _ (fits : Fits (shaped old s)) (square : s.width ≡ s.height) (right : y < x) (after : from ≤ x) (here : x < upto) (column : x < s.width) (i j : ℕ) (is_i : i ≡ y * s.stride + x) (is_j : j ≡ x * s.stride + y) where
@@ -160,31 +106,22 @@ module _ {T : Type 0} (s : Shape) where
         second_is : slice_get new j ≡ slice_get now i
         second_is = made.each j (omega (arith, second_within, as_many)) ∙ ap (slice_get now) (second_of i j)
 
+        -- the cell of column u of row v comes from that of column v of row u
+        moved : (u v k m : ℕ) → u < s.width → v < s.width → k ≡ v * s.stride + u → m ≡ u * s.stride + v → slice_get new k ≡ slice_get now m
+            → crossed_cell s.stride from upto x y v u ≡ crossed_cell s.stride from upto (x + 1) y u v → slice_get new (v * s.stride + u) ≡ slice_get old (crossed_cell s.stride from upto (x + 1) y u v)
+        moved u v k m in_u in_v is_k is_m shows same = ap (slice_get new) (sym is_k) ∙ shows ∙ ap (slice_get now) is_m ∙ so.each v u in_v (omega (arith, in_u, square)) ∙ ap (slice_get old) same
+
         crossed_at : (u v : ℕ) → u < s.width → v < s.height → slice_get new (v * s.stride + u) ≡ slice_get old (crossed_cell s.stride from upto (x + 1) y u v)
         crossed_at u v in_u in_v =
             elim (same_place u v x y) [
-              | inl first ↦
-                  let at : v * s.stride + u ≡ i = ap (λ n. n * s.stride + u) first.1 ∙ ap (λ n. y * s.stride + n) first.0 ∙ sym is_i in
-                  let was : crossed_cell s.stride from upto x y y x ≡ x * s.stride + y = grind (arith, nat_tests, right, after, here) in
-                  let is : crossed_cell s.stride from upto (x + 1) y u v ≡ x * s.stride + y = ap (λ n. crossed_cell s.stride from upto (x + 1) y n v) first.0 ∙ ap (λ n. crossed_cell s.stride from upto (x + 1) y x n) first.1 ∙ grind (arith, nat_tests, right, after, here) in
-                  ap (slice_get new) at ∙ first_is ∙ ap (slice_get now) is_j ∙ so.each y x (omega arith) (omega arith) ∙ ap (slice_get old) (was ∙ sym is)
+              | inl first ↦ rw (first.0, first.1) (moved x y i j column (omega arith) is_i is_j first_is (grind (arith, nat_tests, right, after, here)))
               | inr not_first ↦
                   elim (same_place u v y x) [
-                    | inl there ↦
-                        let at : v * s.stride + u ≡ j = ap (λ n. n * s.stride + u) there.1 ∙ ap (λ n. x * s.stride + n) there.0 ∙ sym is_j in
-                        let was : crossed_cell s.stride from upto x y x y ≡ y * s.stride + x = grind (arith, nat_tests, right, after, here) in
-                        let is : crossed_cell s.stride from upto (x + 1) y u v ≡ y * s.stride + x = ap (λ n. crossed_cell s.stride from upto (x + 1) y n v) there.0 ∙ ap (λ n. crossed_cell s.stride from upto (x + 1) y y n) there.1 ∙ grind (arith, nat_tests, right, after, here) in
-                        ap (slice_get new) at ∙ second_is ∙ ap (slice_get now) is_i ∙ so.each x y (omega arith) (omega arith) ∙ ap (slice_get old) (was ∙ sym is)
+                    | inl there ↦ rw (there.0, there.1) (moved y x j i (omega arith) column is_j is_i second_is (grind (arith, nat_tests, right, after, here)))
                     | inr not_second ↦
                         let not_i : v * s.stride + u ≢ i = λ e. let p = same_from_place v u y x s.stride (omega (arith, s.holds_width)) (omega (arith, s.holds_width)) (e ∙ is_i) in not_first (p.1, p.0) in
                         let not_j : v * s.stride + u ≢ j = λ e. let p = same_from_place v u x y s.stride (omega (arith, s.holds_width)) (omega (arith, s.holds_width)) (e ∙ is_j) in not_second (p.1, p.0) in
-                        other_stays (v * s.stride + u) not_i not_j ∙ so.each u v in_u in_v
-                        ∙ ap (slice_get old) (same_cell s.stride from upto x y from upto (x + 1) y u v (λ other.
-                        same_crossed from upto x y from upto (x + 1) y u v other (λ a b below one. done_more from upto x y a b (λ e.
-                        elim one [
-                          | inl f ↦ not_first (sym f.0 ∙ e.0, sym f.1 ∙ e.1)
-                          | inr f ↦ not_second (sym f.1 ∙ e.1, sym f.0 ∙ e.0)
-                        ]))))
+                        other_stays (v * s.stride + u) not_i not_j ∙ so.each u v in_u in_v ∙ ap (slice_get old) (other_cell s.stride from upto x y u v not_first not_second)
                   ]
             ]
 
@@ -197,34 +134,16 @@ module _ {T : Type 0} (s : Shape) where
 
     -- all pairs of the strip
     module _ (square : s.width ≡ s.height) (high : upto ≤ y) where
-      in_strip : (stride u v : ℕ) → u < upto → v < upto → (from ≤ u) ⊎ (from ≤ v) → crossed_cell stride from upto x y u v ≡ u * stride + v
-      in_strip stride u v column line there = elim there [ inl right ↦ grind (arith, nat_tests, high, column, line, right) | inr below ↦ grind (arith, nat_tests, high, column, line, below) ]
-
-      past_strip : (stride u v : ℕ) → (upto ≤ u) ⊎ (upto ≤ v) → crossed_cell stride from upto x y u v ≡ v * stride + u
-      past_strip stride u v past = elim past [ inl right ↦ grind (arith, nat_tests, right) | inr below ↦ grind (arith, nat_tests, below) ]
-
-      before_strip : (stride u v : ℕ) → u < from → v < from → crossed_cell stride from upto x y u v ≡ v * stride + u
-      before_strip stride u v column line = grind (arith, nat_tests, column, line)
-
       pub strip_shown : shaped_grid now s ≡ strip_crossed from upto (shaped_grid old s)
       unfolding grid_of
       strip_shown =
           same_grids s.width s.height (pixel (shaped now s)) (λ u v. if is_in_strip from upto u v then (shaped_grid old s).pixel v u else (shaped_grid old s).pixel u v)
           (λ u v column line.
           so.each u v column line
-          ∙ elim (strip_cases from upto u v) [
-            | inl here ↦
-                ap (slice_get old) (in_strip s.stride u v here.0 here.1 here.2)
-                ∙ sym (pixel_at (shaped old s) v u (omega (arith, line, square)) (omega (arith, column, square)))
-                ∙ sym (cond-true (is_in_strip from upto u v) _ _ (strip_true from upto u v here.0 here.1 here.2))
-            | inr (inl past) ↦
-                ap (slice_get old) (past_strip s.stride u v past)
-                ∙ sym (pixel_at (shaped old s) u v column line)
-                ∙ sym (cond-false (is_in_strip from upto u v) _ _ (strip_past from upto u v past))
-            | inr (inr before) ↦
-                ap (slice_get old) (before_strip s.stride u v before.0 before.1)
-                ∙ sym (pixel_at (shaped old s) u v column line)
-                ∙ sym (cond-false (is_in_strip from upto u v) _ _ (strip_before from upto u v before.0 before.1))
+          ∙ ap (λ b. slice_get old (if b then u * s.stride + v else v * s.stride + u)) (strip_done from upto x y u v high)
+          ∙ elim (is_in_strip from upto u v) as (λ b. slice_get old (if b then u * s.stride + v else v * s.stride + u) ≡ (if b then (shaped_grid old s).pixel v u else (shaped_grid old s).pixel u v)) [
+            | true ↦ sym (pixel_at (shaped old s) v u (omega (arith, line, square)) (omega (arith, column, square)))
+            | false ↦ sym (pixel_at (shaped old s) u v column line)
           ])
 
       pub strip_outside : SameOutside (shaped old s) (shaped now s)

@@ -1,25 +1,26 @@
--- Pixels of several cells that come from other places of a source: pixel by pixel, row by row, and strips of columns one after the other.
-use Rattle.std.proofs.Common.{◌≡◌, ℕ, ◌+◌, ◌-◌, ◌*◌, ◌/◌, ◌%◌, ◌<◌, ◌≤◌, List, length, Option, refl, sym, ap, ◌∙◌, subst, arith, inl, inr}
+-- Pixels of several cells that come from other places of a source: pixel by pixel, row by row, and all of them.
+use Rattle.std.proofs.Common.{◌≡◌, ℕ, ◌+◌, ◌-◌, ◌*◌, ◌/◌, ◌%◌, ◌<◌, ◌≤◌, List, length, Option, sym, ap, ◌∙◌, subst, arith, inl, inr}
 use Rattle.std.specs.List.{slice_get}
 use Rattle.std.proofs.lemmas.Bool.{cases_lt}
 use Rattle.std.proofs.lemmas.Nat.{div-mul-add, mod-mul-add, mod_below, div_below, mul-le}
 use Rattle.std.proofs.Math.Nat.{add-mul, mul_comm, mul-add-div_right, mul-add-mod_self_right}
-use Rattle.image_model.specs.Layout.{Layout, Reaches, SameOutside, pixel}
-use Rattle.image_model.specs.Grid.{Grid, grid, grid_of, patch, view}
+use Rattle.image_model.specs.Layout.{Layout, Reaches}
+use Rattle.image_model.specs.Grid.{Grid, grid, grid_of, view}
 use Rattle.image_model.specs.Turns.{transposed, turned_right, turned_half, turned_left}
 use Rattle.image_model.specs.Windows.{Stretch, with_stretch}
 use Rattle.image_model.proofs.Stretches.{length-with_stretch, with_stretch_at, with_stretch_beside}
-use Rattle.image_model.proofs.Grids.{at_place, pixel_at, same_grids}
-use Rattle.image_model.proofs.Patches.{in_patch, beside_patch, in_view}
-use Rattle.image_model.proofs.Places.{outside_trans}
+use Rattle.image_model.proofs.Grids.{at_place, same_grids}
 use Rattle.image_shape.specs.Shape.{shaped, shaped_grid}
 use Rattle.image_shape.specs.declared.shape.Shape.{Shape}
 use Rattle.image_turns.specs.Oriented.{source_column, source_row, oriented_width, oriented_height, oriented, source_cell}
+use Rattle.image_turns.specs.Sizes.{AreOriented}
 use Rattle.image_turns.specs.declared.pixel_turning.Orientation.{Orientation}
 use Rattle.image_turns.specs.declared.pixel_turning.Orientation.TheVariants.{Transposed, Right, Half, Left}
+use Rattle.image_turns.specs.declared.pixel_turning.Origin.{Origin}
 use Rattle.image_writes.specs.Written.{Becomes}
 use Rattle.image_writes.proofs.Gathering.{GatheredTo}
 use Rattle.image_writes.proofs.PixelsOfRows.{cells_within, pixels_of_row}
+use Rattle.image_turns.proofs.Windowed.{ShowsWhere, shows_all}
 
 -- ---- places
 
@@ -33,9 +34,9 @@ source_within Left columns rows x y column line = (omega (arith, line), column)
 -- ---- pixels of one cell
 
 -- they come from the same places
-oriented_cells : {T : Type 0} (o : Orientation) (g : Grid T)
+same_places : {T : Type 0} (o : Orientation) (g : Grid T)
     → grid (oriented_width o g.width g.height) (oriented_height o g.width g.height) (λ x y. g.pixel (source_column o g.width x y) (source_row o g.height x y)) ≡ oriented 1 o g
-oriented_cells o g =
+same_places o g =
     let wide : g.width ≡ g.width / 1 = omega arith in
     let same : (x : ℕ) → x ≡ x / 1 = λ x. omega arith in
     let once : (n : ℕ) → n ≡ n * 1 = λ n. omega arith in
@@ -45,22 +46,19 @@ oriented_cells o g =
     λ x y. (λ i. source_column o (wide i) (same x i) y) ∙ alone (source_column o (g.width / 1) (x / 1) y) x in
     λ i. grid (width i) (oriented_height o (wide i) g.height) (λ x y. g.pixel (column x y i) (source_row o g.height (same x i) y))
 
-module _ {T : Type 0} (g : Grid T) where
-  pub transposed_cells : transposed g ≡ oriented 1 Transposed g
-  unfolding transposed
-  transposed_cells = oriented_cells Transposed g
+-- the grid transposed or turned
+abbrev pub placed : {T : Type 0} → Orientation → Grid T → Grid T
+placed Transposed g = transposed g
+placed Right g = turned_right g
+placed Half g = turned_half g
+placed Left g = turned_left g
 
-  pub right_cells : turned_right g ≡ oriented 1 Right g
-  unfolding turned_right
-  right_cells = oriented_cells Right g
-
-  pub half_cells : turned_half g ≡ oriented 1 Half g
-  unfolding turned_half
-  half_cells = oriented_cells Half g
-
-  pub left_cells : turned_left g ≡ oriented 1 Left g
-  unfolding turned_left
-  left_cells = oriented_cells Left g
+pub placed_cells : {T : Type 0} (o : Orientation) (g : Grid T) → placed o g ≡ oriented 1 o g
+unfolding transposed turned_right turned_half turned_left
+placed_cells Transposed g = same_places Transposed g
+placed_cells Right g = same_places Right g
+placed_cells Half g = same_places Half g
+placed_cells Left g = same_places Left g
 
 -- ---- pixel by pixel
 
@@ -144,66 +142,17 @@ module _ {T : Type 0} (size : ℕ) (some : 0 < size) (o : Orientation) (l : Layo
         (λ u v. (grid_of l).pixel (source_column o (l.width / size) (u / size) v * size + u % size) (source_row o l.height (u / size) v)) (left * size + x) (0 + y) in_x in_y
         ∙ (λ i. (grid_of l).pixel (source_column o (columns_are i) (same_x i) (same_y i) * size + same_cell i) (source_row o l.height (same_x i) (same_y i)))))
 
--- ---- strips of columns
+-- ---- all pixels
 
--- the columns before this one show the grid, and the padding is as before
-pub record ColumnsDone {T : Type 0} (q : Grid T) (old new : List T) (s : Shape) (left : ℕ) : Type 0 where
-  pub outside : SameOutside (shaped old s) (shaped new s)
-  pub each : (x y : ℕ) → x < left → x < s.width → y < s.height → (shaped_grid new s).pixel x y ≡ q.pixel x y
-
-module _ {T : Type 0} (q : Grid T) (s : Shape) where
-  -- no column yet
-  pub no_column : (cells : List T) → ColumnsDone q cells cells s 0
-  no_column cells = record {
-    outside = record { width_stays = refl; height_stays = refl; stride_stays = refl; length_stays = refl; padding_stays = λ k padding. refl };
-    each = λ x y before column line. absurd (omega (arith, before));
-  }
-
-  module _ (old now : List T) (left : ℕ) (so : ColumnsDone q old now s left) where
-    -- one strip more
-    module _ (new : List T) (count : ℕ) (shown : shaped_grid new s ≡ patch (shaped_grid now s) left 0 (view q left 0 count s.height)) (stays : SameOutside (shaped now s) (shaped new s)) where
-      in_strip : (x y : ℕ) → left ≤ x → x < left + count → x < s.width → y < s.height → (shaped_grid new s).pixel x y ≡ q.pixel x y
-      unfolding view
-      in_strip x y from upto column line =
-          let same_x : left + (x - left) ≡ x = omega (arith, from) in
-          let same_y : 0 + (y - 0) ≡ y = omega arith in
-          ap (λ g. g.pixel x y) shown
-          ∙ in_patch (shaped now s) left 0 (view q left 0 count s.height) x y column line from (omega arith) upto (omega (arith, line))
-          ∙ in_view q left 0 count s.height (x - left) (y - 0) (omega (arith, from, upto)) (omega (arith, line))
-          ∙ (λ i. q.pixel (same_x i) (same_y i))
-
-      before_strip : (x y : ℕ) → x < left → (shaped_grid new s).pixel x y ≡ (shaped_grid now s).pixel x y
-      unfolding view
-      before_strip x y before = ap (λ g. g.pixel x y) shown ∙ beside_patch (shaped now s) left 0 (view q left 0 count s.height) x y (inl before)
-
-      pub one_strip_more : ColumnsDone q old new s (left + count)
-      one_strip_more = record {
-        outside = outside_trans (shaped old s) (shaped now s) (shaped new s) so.outside stays;
-        each = λ x y before column line.
-            elim (cases_lt x left) [
-              | inl earlier ↦ before_strip x y earlier ∙ so.each x y earlier column line
-              | inr here ↦ in_strip x y here before column line
-            ];
-      }
-
-    -- all columns
-    pub all_columns : (0 < s.height → s.width ≤ left) → (f : ℕ → ℕ → Option T) → q ≡ grid s.width s.height f → shaped_grid now s ≡ q
-    unfolding grid_of
-    all_columns all f is_q =
-        same_grids s.width s.height (pixel (shaped now s)) f (λ x y in_x in_y.
-        sym (pixel_at (shaped now s) x y in_x in_y) ∙ so.each x y (omega (arith, in_x, all (omega (arith, in_y)))) in_x in_y ∙ ap (λ g. g.pixel x y) is_q ∙ at_place s.width s.height f x y in_x in_y)
-        ∙ sym is_q
-
--- so all pixels become those of the source's places
-pub all_strips : {T : Type 0} (size : ℕ) (some : 0 < size) (o : Orientation) (l : Layout T) (columns : ℕ) (wide : l.width ≡ columns * size) (s : Shape) → s.width ≡ oriented_width o columns l.height * size → s.height ≡ oriented_height o columns l.height
-    → (old now : List T) (left : ℕ) → ColumnsDone (oriented size o (grid_of l)) old now s left → (0 < s.height → s.width ≤ left) → Becomes s old now (oriented size o (grid_of l))
+-- once all places show the source's places, the image becomes that
+pub becomes_oriented : {T : Type 0} {size : ℕ} {Done : ℕ → ℕ → Type 0} {old now source : List T} {s : Shape} {from : Origin} → AreOriented size old s source from
+    → ShowsWhere Done (oriented size from.orientation (shaped_grid source from.shape)) old now s → ((x y : ℕ) → x < s.width → y < s.height → Done x y) → Becomes s old now (oriented size from.orientation (shaped_grid source from.shape))
 unfolding grid_of
-all_strips {T} size some o l columns wide s is_width is_height old now left so all =
-    let are = columns_are size some o l columns wide in
-    let width : oriented_width o (l.width / size) l.height * size ≡ s.width = ap (λ n. oriented_width o n l.height * size) are ∙ sym is_width in
-    let height : oriented_height o (l.width / size) l.height ≡ s.height = ap (λ n. oriented_height o n l.height) are ∙ sym is_height in
+becomes_oriented {T} {size} {source = source} {s} {from} sizes so all =
+    let l : Layout T = shaped source from.shape in
+    let o = from.orientation in
+    let are : l.width / size ≡ from.columns = columns_are size sizes.some o l from.columns sizes.source_width in
+    let width : oriented_width o (l.width / size) l.height * size ≡ s.width = ap (λ n. oriented_width o n l.height * size) are ∙ sym sizes.width in
+    let height : oriented_height o (l.width / size) l.height ≡ s.height = ap (λ n. oriented_height o n l.height) are ∙ sym sizes.height in
     let f : ℕ → ℕ → Option T = λ x y. (grid_of l).pixel (source_column o (l.width / size) (x / size) y * size + x % size) (source_row o l.height (x / size) y) in
-    record {
-      grid = all_columns (oriented size o (grid_of l)) s old now left so all f (λ i. grid (width i) (height i) f);
-      outside = so.outside;
-    }
+    shows_all so all f (λ i. grid (width i) (height i) f)

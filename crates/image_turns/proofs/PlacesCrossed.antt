@@ -1,6 +1,6 @@
 -- Squares of which some places have changed places with those across the diagonal: two blocks that do, and blocks one after the other.
 use Rattle.std.proofs.Common.{◌≡◌, ℕ, ◌+◌, ◌-◌, ◌<◌, Bool, true, false, List, Option, refl, sym, ap, ◌∙◌, arith, inl, inr, if◌then◌else◌, ◌||◌}
-use Rattle.std.proofs.lemmas.Bool.{cases_Bool, cond-true, cond-false, true≢false}
+use Rattle.std.proofs.lemmas.Bool.{cases_Bool, cond-true, cond-false}
 use Rattle.image_model.specs.Layout.{SameOutside, pixel}
 use Rattle.image_model.specs.Grid.{Grid, grid, grid_of, covers, patch, view}
 use Rattle.image_model.specs.Turns.{transposed}
@@ -52,15 +52,9 @@ module _ {T : Type 0} (w h : ℕ) (f : ℕ → ℕ → Option T) (left top width
 
 -- ---- blocks one after the other
 
--- neither of two tests
-pub both_false : (a b : Bool) → a || b ≡ false → (a ≡ false) × (b ≡ false)
-both_false true b e = absurd (true≢false e)
-both_false false b e = (refl, e)
-
 -- the pixel at a place, or across the diagonal
 abbrev pub crossed_pixel : {T : Type 0} → Bool → Grid T → ℕ → ℕ → Option T
-crossed_pixel true g u v = g.pixel v u
-crossed_pixel false g u v = g.pixel u v
+crossed_pixel b g u v = if b then g.pixel v u else g.pixel u v
 
 -- the places that are done have changed places, and the padding stays
 pub record PlacesCrossed {T : Type 0} (done : ℕ → ℕ → Bool) (old new : List T) (s : Shape) : Type 0 where

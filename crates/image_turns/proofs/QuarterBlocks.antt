@@ -1,18 +1,13 @@
 -- Images whose columns are rows: a block that is read, transposed and written, and the part of the source that a window shows.
-use Rattle.std.proofs.Common.{◌≡◌, ℕ, List, ◌+◌, ◌-◌, ◌<◌, ◌≤◌, true, false, refl, ap, sym, ◌∙◌, arith}
-use Rattle.image_model.specs.Grid.{Grid, patch, view}
+use Rattle.std.proofs.Common.{◌≡◌, ℕ, ◌+◌, ◌-◌, ◌<◌, ◌≤◌, true, false, refl, ap, sym, ◌∙◌, arith}
+use Rattle.image_model.specs.Grid.{Grid, view}
 use Rattle.image_model.specs.Turns.{transposed}
-use Rattle.image_model.specs.Windows.{Window, window, window_view}
 use Rattle.image_model.proofs.Grids.{at_place, same_grids}
-use Rattle.image_shape.specs.Shape.{shaped_grid}
-use Rattle.image_shape.specs.declared.shape.Shape.{Shape}
 use Rattle.image_turns.specs.Blocks.{read_over}
 use Rattle.image_turns.specs.Quarters.{source_column, source_row, quartered, first_column, first_row, reads_back, writes_back}
 use Rattle.image_turns.specs.declared.turning.Crossing.{Crossing}
 use Rattle.image_turns.specs.declared.turning.Crossing.TheVariants.{Across, Right, Left}
-use Rattle.image_writes.specs.Written.{Becomes}
 use Rattle.image_turns.proofs.Quarters.{source_place}
-use Rattle.image_turns.proofs.Windowed.{window_becomes}
 
 -- ---- one block
 
@@ -80,9 +75,3 @@ module _ {T : Type 0} (crossing : Crossing) (g : Grid T) (top count lines column
       let same : height ≡ count = is_height ∙ sym all in
       (λ i. quartered crossing (view g column 0 lines (same i)))
       ∙ view_quartered crossing g 0 top count lines column 0 (omega (arith, all)) high is_column (whole_rows crossing g.height ∙ ap (first_row crossing g.height 0) (sym all))
-
-  -- so the image shows there what they show, once a window of it is written
-  pub band_written : (s : Shape) (cells new : List T) (w : Window) → w ≡ window 0 top count lines → (shown : Grid T) → shown ≡ quartered crossing (view g column 0 lines height)
-      → Becomes s cells new (patch (shaped_grid cells s) w.left w.top shown) → Becomes s cells new (patch (shaped_grid cells s) 0 top (view (quartered crossing g) 0 top count lines))
-  band_written s cells new w is shown shows became =
-      window_becomes (quartered crossing g) s cells new w 0 top count lines is shown (shows ∙ band_quartered ∙ sym (ap (window_view (quartered crossing g)) is)) became

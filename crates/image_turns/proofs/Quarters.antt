@@ -5,6 +5,7 @@ use Rattle.image_model.specs.Grid.{grid, grid_of}
 use Rattle.image_shape.specs.Shape.{shaped_grid}
 use Rattle.image_shape.specs.declared.shape.Shape.{Shape}
 use Rattle.image_turns.specs.Quarters.{source_column, source_row, quartered, first_column, reads_back}
+use Rattle.image_turns.specs.Sizes.{AreCrosswise}
 use Rattle.image_writes.specs.Written.{Becomes}
 use Rattle.image_turns.specs.declared.turning.Crossing.{Crossing}
 use Rattle.image_turns.specs.declared.turning.Crossing.TheVariants.{Across, Right, Left}
@@ -37,34 +38,22 @@ whole_column Across width = refl
 whole_column Right width = refl
 whole_column Left width = omega arith
 
--- the columns before this one
-abbrev pub InStrips : ℕ → ℕ → ℕ → Type 0
-InStrips left x y = x < left
-
--- of one strip more, of all rows, those beside it come before
-pub before_strip : (left count height x y : ℕ) → y < height → InStrips (left + count) x y → IsBeside left 0 count height x y → InStrips left x y
-before_strip left count height x y line next beside =
-    elim beside [ inl before ↦ before | inr rest ↦ elim rest [ inl above ↦ absurd (omega (arith, above)) | inr rest ↦ elim rest [ inl after ↦ absurd (omega (arith, after, next)) | inr below ↦ absurd (omega (arith, below, line)) ] ] ]
-
 -- the rows before this one, and of sixteen rows the columns before that one
 abbrev pub InBlocks : ℕ → ℕ → ℕ → ℕ → Type 0
 InBlocks left top x y = (y < top) ⊎ ((y < top + 16) × (x < left))
 
 -- of one block more, which may begin earlier, those beside it come before
-pub before_block : (width height left top x y : ℕ) → x < width → y < height → 16 ≤ width → 16 ≤ height → InBlocks (left + 16) top x y → IsBeside (min left (width - 16)) (min top (height - 16)) 16 16 x y → InBlocks left top x y
-before_block width height left top x y column line wide high next beside =
+pub before_block : (width height left top column line x y : ℕ) → column ≡ min left (width - 16) → line ≡ min top (height - 16) → x < width → y < height → 16 ≤ width → 16 ≤ height → InBlocks (left + 16) top x y → IsBeside column line 16 16 x y
+    → InBlocks left top x y
+before_block width height left top column line x y is_column is_line in_x in_y wide high next beside =
     elim next [
       | inl above ↦ inl above
-      | inr here ↦
-          let upto : y < top + 16 = here.0 in
-          let within : x < left + 16 = here.1 in
+      | inr (upto, within) ↦
           elim beside [
             | inl before ↦ inr (upto, omega (arith, before))
-            | inr rest ↦
-                elim rest [
-                  | inl above ↦ inl (omega (arith, above))
-                  | inr rest ↦ elim rest [ inl after ↦ absurd (omega (arith, after, column, within, wide)) | inr below ↦ absurd (omega (arith, below, line, upto, high)) ]
-                ]
+            | inr (inl above) ↦ inl (omega (arith, above))
+            | inr (inr (inl after)) ↦ absurd (omega (arith, after, within))
+            | inr (inr (inr below)) ↦ absurd (omega (arith, below, upto))
           ]
     ]
 
@@ -75,16 +64,12 @@ InRows top x y = y < top
 -- of the rows before another one, those beside some rows come before them
 pub before_rows : (width height top line lines upto x y : ℕ) → x < width → y < height → line ≤ top → min upto height ≤ line + lines → InRows upto x y → IsBeside 0 line width lines x y → InRows top x y
 before_rows width height top line lines upto x y column below order reach next beside =
-    elim beside [
-      | inl before ↦ absurd (omega (arith, before))
-      | inr rest ↦ elim rest [ inl above ↦ omega (arith, above, order) | inr rest ↦ elim rest [ inl after ↦ absurd (omega (arith, after, column)) | inr under ↦ absurd (omega (arith, under, below, reach, next)) ] ]
-    ]
+    elim beside [ inl before ↦ absurd (omega (arith, before)) | inr (inl above) ↦ omega (arith, above, order) | inr (inr (inl after)) ↦ absurd (omega (arith, after, column)) | inr (inr (inr under)) ↦ absurd (omega (arith, under, below, reach, next)) ]
 
 -- once all places show the source, whose columns are rows, the image becomes that
-module _ {T : Type 0} (crossing : Crossing) (source : List T) (t s : Shape) (columns : s.width ≡ t.height) (lines : s.height ≡ t.width) where
-  pub becomes_quartered : (Done : ℕ → ℕ → Type 0) (old now : List T) → ShowsWhere Done (quartered crossing (shaped_grid source t)) old now s → ((x y : ℕ) → x < s.width → y < s.height → Done x y)
-      → Becomes s old now (quartered crossing (shaped_grid source t))
-  unfolding grid_of
-  becomes_quartered Done old now so all =
-      let shown : ℕ → ℕ → Option T = λ x y. (shaped_grid source t).pixel (source_column crossing t.width x y) (source_row crossing t.height x y) in
-      shows_all (quartered crossing (shaped_grid source t)) s Done old now so all shown (λ i. grid (sym columns i) (sym lines i) shown)
+pub becomes_quartered : {T : Type 0} {Done : ℕ → ℕ → Type 0} {old now source : List T} {s t : Shape} (crossing : Crossing) → AreCrosswise old s source t → ShowsWhere Done (quartered crossing (shaped_grid source t)) old now s
+    → ((x y : ℕ) → x < s.width → y < s.height → Done x y) → Becomes s old now (quartered crossing (shaped_grid source t))
+unfolding grid_of
+becomes_quartered {T} {source = source} {t = t} crossing sizes so all =
+    let shown : ℕ → ℕ → Option T = λ x y. (shaped_grid source t).pixel (source_column crossing t.width x y) (source_row crossing t.height x y) in
+    shows_all so all shown (λ i. grid (sym sizes.columns i) (sym sizes.lines i) shown)

@@ -1,23 +1,28 @@
 -- Squares of which blocks of 16 by 16 pixels change places with those across the diagonal, pair by pair.
-use Rattle.std.proofs.Common.{◌≡◌, ℕ, ◌+◌, ◌*◌, ◌/◌, ◌<◌, ◌≤◌, ◌⊎◌, Bool, true, false, List, Option, sym, ap, ◌∙◌, arith, inl, inr, nat_lt, if◌then◌else◌, ◌||◌, ◌&&◌, max, min}
-use Rattle.std.proofs.lemmas.Bool.{cases_Bool, cases_lt, cond-true, cond-false, true≢false}
+use Rattle.std.proofs.Common.{◌≡◌, ℕ, ◌+◌, ◌*◌, ◌/◌, ◌<◌, ◌≤◌, Bool, true, false, List, Option, sym, ap, ◌∙◌, arith, nat_lt, if◌then◌else◌, ◌||◌, ◌&&◌, max, min}
+use Rattle.std.proofs.lemmas.Bool.{cond-true}
 use Rattle.std.proofs.lemmas.Bool.Decides.{nat_tests}
 use Rattle.image_model.specs.Layout.{pixel}
-use Rattle.image_model.specs.Grid.{grid, grid_of, covers}
+use Rattle.image_model.specs.Grid.{Grid, grid, grid_of, view}
 use Rattle.image_model.specs.Tables.{is_before}
 use Rattle.image_model.specs.Turns.{transposed}
-use Rattle.image_model.proofs.Grids.{at_place, covers_decides, pixel_at, same_grids}
+use Rattle.image_model.specs.Windows.{Window, window_view}
+use Rattle.image_model.proofs.Grids.{at_place, pixel_at, same_grids}
 use Rattle.image_model.proofs.Places.{outside_trans}
 use Rattle.image_shape.specs.Shape.{shaped, shaped_grid}
 use Rattle.image_shape.specs.declared.shape.Shape.{Shape}
 use Rattle.image_turns.specs.Blocks.{read_over, is_across, crossed_at, corner_crossed, is_in_strip, strip_crossed}
 use Rattle.image_writes.specs.Written.{Becomes}
-use Rattle.image_turns.proofs.PlacesCrossed.{PlacesCrossed, crossed_pixel, both_false, no_place_crossed, same_places, blocks_crossed}
-use Rattle.image_turns.proofs.Diagonals.{strip_cases, strip_true, strip_past, strip_before}
+use Rattle.image_turns.proofs.PlacesCrossed.{PlacesCrossed, crossed_pixel, no_place_crossed, same_places, blocks_crossed}
 
 -- rows that are read in their order
 pub read_plain : {T : Type 0} (w h : ℕ) (f : ℕ → ℕ → Option T) → read_over false (grid w h f) ≡ grid w h f
 read_plain w h f = same_grids w h _ f (λ x y column line. at_place w h f x y column line)
+
+-- so are those of a window
+pub read_window : {T : Type 0} (g : Grid T) (w : Window) {seen : Grid T} → seen ≡ window_view g w → read_over false seen ≡ window_view g w
+unfolding view
+read_window g w shows = ap (read_over false) shows ∙ read_plain w.width w.height (λ x y. g.pixel (w.left + x) (w.top + y))
 
 -- ---- pairs of blocks one after the other
 
@@ -67,42 +72,12 @@ max_comm a b = omega arith
 min_comm : (a b : ℕ) → min a b ≡ min b a
 min_comm a b = omega arith
 
--- the block of a place
-column_of : (x u : ℕ) → 16 * x ≤ u → u < 16 * x + 16 → u / 16 ≡ x
-column_of x u from upto = omega (arith, from, upto)
-
-block_from : (x u : ℕ) → u / 16 ≡ x → 16 * x ≤ u
-block_from x u same = omega (arith, same)
-
-block_upto : (x u : ℕ) → u / 16 ≡ x → u < 16 * x + 16
-block_upto x u same = omega (arith, same)
-
 -- a place is in the block or across from it where their pair is this one
 pair_of : (x y u v : ℕ) → y ≤ x → is_across (16 * x) (16 * y) 16 16 u v ≡ true → (max (u / 16) (v / 16) ≡ x) × (min (u / 16) (v / 16) ≡ y)
-pair_of x y u v below hit =
-    elim (cases_Bool (covers (16 * x) (16 * y) 16 16 u v)) [
-      | inl upper ↦
-          let c = (covers_decides (16 * x) (16 * y) 16 16 u v).0 upper in
-          let in_u = column_of x u c.0 c.2 in
-          let in_v = column_of y v c.1 c.3 in
-          (omega (arith, in_u, in_v, below), omega (arith, in_u, in_v, below))
-      | inr not_upper ↦
-          let c = (covers_decides (16 * y) (16 * x) 16 16 u v).0 (ap (λ b. b || covers (16 * y) (16 * x) 16 16 u v) (sym not_upper) ∙ hit) in
-          let in_u = column_of y u c.0 c.2 in
-          let in_v = column_of x v c.1 c.3 in
-          (omega (arith, in_u, in_v, below), omega (arith, in_u, in_v, below))
-    ]
-
-block_covers : (x y u v : ℕ) → u / 16 ≡ x → v / 16 ≡ y → covers (16 * x) (16 * y) 16 16 u v ≡ true
-block_covers x y u v column line = (covers_decides (16 * x) (16 * y) 16 16 u v).1 (block_from x u column, block_from y v line, block_upto x u column, block_upto y v line)
+pair_of x y u v below hit = (grind (arith, nat_tests, below, hit), grind (arith, nat_tests, below, hit))
 
 not_pair : (x y u v : ℕ) → is_across (16 * x) (16 * y) 16 16 u v ≡ false → (max (u / 16) (v / 16) ≡ x) × (min (u / 16) (v / 16) ≡ y) → ⊥
-not_pair x y u v miss same =
-    let none = both_false (covers (16 * x) (16 * y) 16 16 u v) (covers (16 * y) (16 * x) 16 16 u v) miss in
-    elim (cases_lt (u / 16) (v / 16)) [
-      | inl above ↦ true≢false (sym (block_covers y x u v (omega (arith, above, same.1)) (omega (arith, above, same.0))) ∙ none.1)
-      | inr below ↦ true≢false (sym (block_covers x y u v (omega (arith, below, same.0)) (omega (arith, below, same.1))) ∙ none.0)
-    ]
+not_pair x y u v miss same = grind (arith, nat_tests, miss, same)
 
 module _ {T : Type 0} (s : Shape) where
   -- no pair yet
@@ -146,38 +121,14 @@ module _ {T : Type 0} (s : Shape) where
 
 -- ---- all pairs of blocks
 
-in_corner : (n u v : ℕ) → u < 16 * n → v < 16 * n → is_done n n 0 0 (max (u / 16) (v / 16)) (min (u / 16) (v / 16)) ≡ true
-in_corner n u v column line =
-    let left : u / 16 < n = omega (arith, column) in
-    let right : v / 16 < n = omega (arith, line) in
-    let both : max (u / 16) (v / 16) < n = omega (arith, left, right) in
-    first_done n (max (u / 16) (v / 16)) (min (u / 16) (v / 16)) both
+corner_done : (n u v : ℕ) → block_done n n 0 0 u v ≡ (nat_lt u (16 * n) && nat_lt v (16 * n))
+corner_done n u v = first_done n (max (u / 16) (v / 16)) (min (u / 16) (v / 16)) ∙ first_blocks n u v
   where
-    first_done : (n a b : ℕ) → a < n → is_done n n 0 0 a b ≡ true
-    first_done n a b here = grind (arith, nat_tests, here)
+    first_done : (n a b : ℕ) → is_done n n 0 0 a b ≡ nat_lt a n
+    first_done n a b = grind (arith, nat_tests)
 
-past_corner : (n u v : ℕ) → (16 * n ≤ u) ⊎ (16 * n ≤ v) → is_done n n 0 0 (max (u / 16) (v / 16)) (min (u / 16) (v / 16)) ≡ false
-past_corner n u v past =
-    let far : n ≤ max (u / 16) (v / 16) = elim past [ inl right ↦ omega (arith, right) | inr below ↦ omega (arith, below) ] in
-    later_done n (max (u / 16) (v / 16)) (min (u / 16) (v / 16)) far
-  where
-    later_done : (n a b : ℕ) → n ≤ a → is_done n n 0 0 a b ≡ false
-    later_done n a b here = grind (arith, nat_tests, here)
-
--- the test of a corner
-corner_true : (n u v : ℕ) → u < n → v < n → nat_lt u n && nat_lt v n ≡ true
-corner_true n u v column line = grind (arith, nat_tests, column, line)
-
-corner_false : (n u v : ℕ) → (n ≤ u) ⊎ (n ≤ v) → nat_lt u n && nat_lt v n ≡ false
-corner_false n u v past = elim past [ inl right ↦ grind (arith, nat_tests, right) | inr below ↦ grind (arith, nat_tests, below) ]
-
--- a place is in the corner or not
-corner_cases : (n u v : ℕ) → ((u < n) × (v < n)) ⊎ ((n ≤ u) ⊎ (n ≤ v))
-corner_cases n u v =
-    elim (cases_lt u n) [
-      | inl column ↦ elim (cases_lt v n) [ inl line ↦ inl (column, line) | inr below ↦ inr (inr below) ]
-      | inr right ↦ inr (inl right)
-    ]
+    first_blocks : (n u v : ℕ) → nat_lt (max (u / 16) (v / 16)) n ≡ (nat_lt u (16 * n) && nat_lt v (16 * n))
+    first_blocks n u v = grind (arith, nat_tests)
 
 module _ {T : Type 0} (s : Shape) (old now : List T) where
   -- these are the first columns and rows
@@ -188,51 +139,39 @@ module _ {T : Type 0} (s : Shape) (old now : List T) where
       (λ u v column line.
       sym (pixel_at (shaped now s) u v column line)
       ∙ so.each u v column line
-      ∙ elim (corner_cases (16 * n) u v) [
-        | inl inside ↦ ap (λ b. crossed_pixel b (shaped_grid old s) u v) (in_corner n u v inside.0 inside.1) ∙ sym (cond-true (nat_lt u (16 * n) && nat_lt v (16 * n)) _ _ (corner_true (16 * n) u v inside.0 inside.1))
-        | inr past ↦ ap (λ b. crossed_pixel b (shaped_grid old s) u v) (past_corner n u v past) ∙ sym (cond-false (nat_lt u (16 * n) && nat_lt v (16 * n)) _ _ (corner_false (16 * n) u v past))
-      ])
+      ∙ ap (λ b. crossed_pixel b (shaped_grid old s) u v) (corner_done n u v))
 
 -- ---- strips of columns after a corner
+
+-- a place changes places in a corner or in the strip after it where it does in both together
+strip_added : {A : Type 0} (left right u v : ℕ) → left ≤ right → (p q : A) → (if is_in_strip left right u v then (if nat_lt v left && nat_lt u left then p else q) else (if nat_lt u left && nat_lt v left then q else p)) ≡ (if nat_lt u right && nat_lt v right then q else p)
+strip_added left right u v more p q = grind (arith, nat_tests, more)
+
+-- all places are in it, or in a strip
+in_corner : (n u v : ℕ) → u < n → v < n → (nat_lt u n && nat_lt v n) ≡ true
+in_corner n u v column line = grind (arith, nat_tests, column, line)
+
+in_strip : (n u v : ℕ) → u < n → v < n → is_in_strip 0 n u v ≡ true
+in_strip n u v column line = grind (arith, nat_tests, column, line)
 
 module _ {T : Type 0} (w h : ℕ) (f : ℕ → ℕ → Option T) (square : w ≡ h) where
   abbrev corner_pixel : ℕ → ℕ → ℕ → Option T
   corner_pixel n x y = if nat_lt x n && nat_lt y n then (grid w h f).pixel y x else (grid w h f).pixel x y
-
-  crossed_pixel_at : (n u v : ℕ) → u < n → v < n → corner_pixel n u v ≡ (grid w h f).pixel v u
-  crossed_pixel_at n u v column line = cond-true (nat_lt u n && nat_lt v n) _ _ (corner_true n u v column line)
-
-  same_pixel_at : (n u v : ℕ) → (n ≤ u) ⊎ (n ≤ v) → corner_pixel n u v ≡ (grid w h f).pixel u v
-  same_pixel_at n u v past = cond-false (nat_lt u n && nat_lt v n) _ _ (corner_false n u v past)
 
   -- the corner is larger by the strip
   pub corner_and_strip : (left right : ℕ) → left ≤ right → strip_crossed left right (corner_crossed left (grid w h f)) ≡ corner_crossed right (grid w h f)
   corner_and_strip left right more =
       same_grids w h (λ x y. if is_in_strip left right x y then (corner_crossed left (grid w h f)).pixel y x else (corner_crossed left (grid w h f)).pixel x y) (corner_pixel right)
       (λ u v column line.
-      elim (strip_cases left right u v) [
-        | inl here ↦
-            cond-true (is_in_strip left right u v) _ _ (strip_true left right u v here.0 here.1 here.2)
-            ∙ at_place w h (corner_pixel left) v u (omega (arith, line, square)) (omega (arith, column, square))
-            ∙ same_pixel_at left v u (elim here.2 [ inl there ↦ inr there | inr there ↦ inl there ])
-            ∙ sym (crossed_pixel_at right u v here.0 here.1)
-        | inr (inl past) ↦
-            cond-false (is_in_strip left right u v) _ _ (strip_past left right u v past)
-            ∙ at_place w h (corner_pixel left) u v column line
-            ∙ same_pixel_at left u v (elim past [ inl there ↦ inl (omega (arith, there, more)) | inr there ↦ inr (omega (arith, there, more)) ])
-            ∙ sym (same_pixel_at right u v past)
-        | inr (inr before) ↦
-            cond-false (is_in_strip left right u v) _ _ (strip_before left right u v before.0 before.1)
-            ∙ at_place w h (corner_pixel left) u v column line
-            ∙ crossed_pixel_at left u v before.0 before.1
-            ∙ sym (crossed_pixel_at right u v (omega (arith, before.0, more)) (omega (arith, before.1, more)))
-      ])
+      let across = at_place w h (corner_pixel left) v u (omega (arith, line, square)) (omega (arith, column, square)) in
+      let here = at_place w h (corner_pixel left) u v column line in
+      (λ i. if is_in_strip left right u v then across i else here i) ∙ strip_added left right u v more ((grid w h f).pixel u v) ((grid w h f).pixel v u))
 
   -- all columns and rows
   pub whole_corner : (n : ℕ) → w ≤ n → corner_crossed n (grid w h f) ≡ transposed (grid w h f)
   unfolding transposed
   whole_corner n all =
-      same_grids w h (corner_pixel n) (λ x y. (grid w h f).pixel y x) (λ u v column line. crossed_pixel_at n u v (omega (arith, column, all)) (omega (arith, line, square, all)))
+      same_grids w h (corner_pixel n) (λ x y. (grid w h f).pixel y x) (λ u v column line. cond-true (nat_lt u n && nat_lt v n) _ _ (in_corner n u v (omega (arith, column, all)) (omega (arith, line, square, all))))
       ∙ (λ i. grid (square i) (sym square i) (λ x y. (grid w h f).pixel y x))
 
   -- a strip of all columns and rows
@@ -240,7 +179,7 @@ module _ {T : Type 0} (w h : ℕ) (f : ℕ → ℕ → Option T) (square : w ≡
   unfolding transposed
   whole_strip n all =
       same_grids w h (λ x y. if is_in_strip 0 n x y then (grid w h f).pixel y x else (grid w h f).pixel x y) (λ x y. (grid w h f).pixel y x)
-      (λ u v column line. cond-true (is_in_strip 0 n u v) _ _ (strip_true 0 n u v (omega (arith, column, all)) (omega (arith, line, square, all)) (inl (omega arith))))
+      (λ u v column line. cond-true (is_in_strip 0 n u v) _ _ (in_strip n u v (omega (arith, column, all)) (omega (arith, line, square, all))))
       ∙ (λ i. grid (square i) (sym square i) (λ x y. (grid w h f).pixel y x))
 
 -- the first columns and rows have changed places, and the padding stays

@@ -1,6 +1,5 @@
 -- One block more.
-use Rattle.std.proofs.Common.{◌+◌, ◌-◌, ◌*◌, ◌≡◌, ◌≤◌, ℕ, List, length, min, refl, sym, subst, ap, ◌∙◌, arith}
-use Rattle.std.specs.List.{slice_get}
+use Rattle.std.proofs.Common.{◌+◌, ◌-◌, ◌*◌, ◌≤◌, ℕ, List, length, min, refl, sym, subst, arith}
 use Rattle.image_writes.proofs.Gathering.{GatheredTo, written}
 use Rattle.image_flips.specs.Triples.{triple_back}
 use Rattle.image_flips.proofs.TriplePlaces.{triple_read, triple_block}
@@ -17,12 +16,8 @@ loop-block-preserved g c =
     let done : ℕ = 48 * c.loop-block.block in
     let next : ℕ = 48 * (c.loop-block.block + 1) in
     let from : ℕ = n - 48 - at in
-    let block : List T = c.write_part.new.cells in
-    let long : length block ≡ 48 = ap length c.write_part.ensures ∙ c.reversed_part-part.ensures.as_many in
     let room : 48 ≤ n = omega (arith, c.if-len-lt48.false, c.loop-block.invariant.as_many) in
-    subst (λ cells. GatheredTo (triple_back n) source old cells (min next n)) (sym (written now block at (at + 48 - at) 48 (omega arith)))
-    (triple_block source old now block n done next at refl c.requires.pixels (omega arith) room (omega arith) c.min-at.ensures long
-    (λ j below.
-    ap (λ cells. slice_get cells j) c.write_part.ensures
-    ∙ triple_read source _ c.reversed_part-part.result from (from + 48 - from) 48 c.reversed_part-part.ensures.as_many (omega arith) c.read_part.ensures c.reversed_part-part.ensures.turned refl j below)
+    subst (λ cells. GatheredTo (triple_back n) source old cells (min next n)) (sym (written now _ at (at + 48 - at) 48 (omega arith)))
+    (triple_block source old now _ n done next at refl c.requires.pixels (omega arith) room (omega arith) c.min-at.ensures
+    (triple_read from (from + 48 - from) 48 (omega arith) refl c.read_part.ensures c.reversed_part-part.ensures.as_many c.reversed_part-part.ensures.turned c.write_part.ensures)
     c.loop-block.invariant)

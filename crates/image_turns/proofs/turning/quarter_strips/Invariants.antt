@@ -1,8 +1,7 @@
 use Rattle.std.proofs.Common.{◌-◌}
 use Rattle.image_shape.specs.Shape.{shaped_grid}
 use Rattle.image_turns.specs.Quarters.{quartered}
-use Rattle.image_turns.proofs.Quarters.{InStrips}
-use Rattle.image_turns.proofs.Windowed.{ShowsWhere}
+use Rattle.image_turns.proofs.Windowed.{InStrips, ShowsWhere}
 use Rattle.image_turns.proofs.turning.quarter_strips.Given as goal
 
 abbrev pub invariant-loop-left : goal.invariant-loop-left
