@@ -45,7 +45,8 @@ MOST = 10_000
 
 
 def runs(library, command, given=b""):
-    """Runs a command with each growth refused in turn, and gives each run and whether one was refused in it. The last has none."""
+    """Runs a command with each growth refused in turn, and gives each run and whether one was refused in it. The last has none,
+    unless the command takes MOST growths or more."""
     for number in range(1, MOST):
         env = {**os.environ, "LD_PRELOAD": library, "REFUSED": str(number)}
         ran = subprocess.run(command, input=given, env=env, capture_output=True, timeout=120)

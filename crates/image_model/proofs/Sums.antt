@@ -132,7 +132,7 @@ sum_above g l k x y e column line = ⊎_elim
     ∙ ap (area_sum g (x + 1)) (omega (arith, some)))
     (eqb_tells y 0)
 
--- bytes of a row
+-- so many bytes of a row are together at most 255 each
 pub line_bytes : (g : Grid ℕ) (x y : ℕ) → AreBelow 256 g → line_sum g x y ≤ 255 * x
 line_bytes g x y below = line_bound g 255 below x y
 

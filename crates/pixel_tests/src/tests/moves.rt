@@ -56,8 +56,8 @@ struct Room<T: Drop> {
 // No image has more cells.
 const MOST_CELLS: usize = 70 * (70 * 8 + 8);
 
-// Numbers from `first` on in the first cells of a room: as many as a shape has, up to its last pixel
-// or with the padding after it.
+// Numbers from `first` on in the last cells of a room: as many as a shape has, up to its last pixel
+// or with the padding after it. A write after them is one outside the list, which a checked run tells.
 fn numbered<T: Copy + Drop + From<u8>>(
     room: &mut [T],
     shape: Shape,
@@ -74,7 +74,8 @@ fn numbered<T: Copy + Drop + From<u8>>(
         .saturating_sub(1)
         .saturating_mul(shape.stride());
     let count = before.saturating_add(last).min(room.len());
-    let cells = &mut room[..count];
+    let start = room.len() - count;
+    let cells = &mut room[start..];
     for k in 0..count {
         cells[k] = T::from((k.saturating_add(usize::from(first)) % 251) as u8);
     }
