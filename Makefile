@@ -1,7 +1,9 @@
 # make try [SCRIPT=path]   runs the program on a script with nothing proved: half a minute
 # make run [SCRIPT=path]   proves and builds the program, and runs it on a script
 # make check [CRATE=name]  proves and tests what has changed, of one crate with all below it or of all: what to run while writing
-# make test                runs every test, proves and builds the product, and tries all that was built
+# make setup               installs what the tests need and this machine lacks, by apt-get (tools/needs.txt)
+# make test [SETUP=no]     runs every test, proves and builds the product, and tries all that was built. It first does what `make setup` does
+#                          for it, where it may
 # make gate [BUGS=..]      everything from nothing: also the proofs of the tests, both builds, and the planted bugs. BUGS=changed: those
 #                          that a change affects; BUGS=landing: those since the last release, and a tenth of the others
 # make times [TIMES=..]    seconds of proof a function; TIMES: options of tools/times.py, as the names of crates, or --waits
@@ -21,9 +23,9 @@
 
 SCRIPT ?= examples/first.script
 PREFIX ?= /usr/local
-export SCRIPT BUGS CRATE
+export SCRIPT BUGS CRATE SETUP
 
-.PHONY: try run check test gate times frames c python install web web-serve release docs exports bench
+.PHONY: setup try run check test gate times frames c python install web web-serve release docs exports bench
 
 try:
 	@python3 tools/program.py try
@@ -33,6 +35,9 @@ run:
 
 check:
 	@python3 .ci/gate.py check
+
+setup:
+	@python3 tools/setup.py
 
 test:
 	@python3 .ci/gate.py test
