@@ -8,7 +8,11 @@ import fcntl
 import os
 import pathlib
 import shutil
+import sys
 import tempfile
+
+if sys.version_info < (3, 10):
+    sys.exit("Python 3.10 or later is needed: %s is Python %d.%d" % ((sys.executable,) + tuple(sys.version_info[:2])))
 
 ROOT = pathlib.Path(__file__).resolve().parent.parent
 # The folders of a crate that its proofs are made of.
@@ -25,6 +29,20 @@ def fill_streams():
 
 # Each tool of `make` imports this file before it opens another.
 fill_streams()
+
+
+# The kits of Rattle by which everything here is proved, and their logic: another one may refuse a proof.
+KITS, LOGIC = ("13b", "13f"), "dac8208d650f15bf"
+
+
+def need_rattle():
+    """Ends this tool with a line where there is no `rt`, and warns of another kit."""
+    if not shutil.which("rt"):
+        sys.exit("Rattle is needed, and there is no `rt` on PATH. README.md, 'Without Rattle', says what works without it.")
+    kit = pathlib.Path(shutil.which("rt")).resolve().parent.parent / "KIT-ID"
+    said = kit.read_text(encoding="utf-8").strip() if kit.is_file() else ""
+    if said and said.split()[-1] != LOGIC:
+        print(f"warning: this is {said}. These proofs are for kit {' or '.join(KITS)} with the logic {LOGIC}: another one may refuse them.", file=sys.stderr, flush=True)
 
 
 def entries():
