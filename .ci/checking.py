@@ -1,23 +1,45 @@
 """What the checks share: counting cases, a copy of the repository to change, and what was built from it."""
 import contextlib
+import os
 import pathlib
+import re
 import shutil
 import subprocess
 import sys
 import tempfile
 
 sys.path.insert(0, str(pathlib.Path(__file__).resolve().parent.parent / "tools"))
+from needs import needs, package_of
 from workspace import ROOT, crates, is_fresh, says
 
 # By this word a check runs over one build of a program.
 ONE_BUILD = "--one-build"
 
 
+# What a check counted, as its last line says it. Other programs end with the first two numbers alone.
+COUNT = re.compile(r"(\d+) passed, (\d+) failed(?:, (\d+) skipped)?")
+# What a check skipped: the cases, how many there are, and for want of what. And the same of a variant that isn't counted.
+SKIPPED, VARIANT = re.compile(r"(?m)^(.*): (\d+) skipped, no (.+)$"), re.compile(r"(?m)^(.*): not tried, no (.+)$")
+# What may be skipped, with the reason.
+MAY_BE_SKIPPED = ROOT / ".ci/may_be_skipped.txt"
+
+
+def is_strict():
+    """Whether a case that is skipped counts as failed."""
+    return os.environ.get("CI") == "true"
+
+
+def permitted(kind):
+    """What of this kind a file says may be skipped: `machine` or `variant`."""
+    rows = [line.split(" | ") for line in MAY_BE_SKIPPED.read_text(encoding="utf-8").splitlines() if not line.startswith("#")]
+    return {row[1] for row in rows if row[0] == kind}
+
+
 class Cases:
     """Counts cases, and prints a line for each."""
 
     def __init__(self):
-        self.passed = self.failed = 0
+        self.passed = self.failed = self.skipped = 0
 
     def count(self, label, is_well, said=""):
         """One case, and, where it failed, what is known of it."""
@@ -26,10 +48,38 @@ class Cases:
         if not is_well and said:
             print(said, flush=True)
 
+    def skip(self, label, *lacking, number=1):
+        """Cases that can't be tried for want of these packages or programs of tools/needs.txt, or of what a kernel or processor lacks.
+        With CI=true only the last may be."""
+        names = [it if it in permitted("machine") else package_of(it) for it in lacking]
+        print(f"{label}: {number} skipped, no {' and no '.join(dict.fromkeys(names))}", flush=True)
+        if is_strict() and not {*names} <= permitted("machine"):
+            print(f"{label}: FAILED, since nothing that can be installed may be skipped with CI=true", flush=True)
+            self.failed += number
+        else:
+            self.skipped += number
+
+    def lacks(self, label, *names, number=1):
+        """Whether this machine lacks one of these packages or programs. Then the cases are skipped."""
+        lacking = [it for it in names if not needs()[package_of(it)].is_there()]
+        if lacking:
+            self.skip(label, *lacking, number=number)
+        return bool(lacking)
+
+    def leave(self, label, variant):
+        """Names a variant of cases that are tried in another way. Debian has no package for it, so it isn't counted."""
+        if variant not in permitted("variant"):
+            raise KeyError(f"{MAY_BE_SKIPPED} has no variant {variant}")
+        print(f"{label}: not tried, no {variant}", flush=True)
+
+    def add(self, other):
+        """Adds what was counted elsewhere."""
+        self.passed, self.failed, self.skipped = self.passed + other.passed, self.failed + other.failed, self.skipped + other.skipped
+
     def end(self):
         """Prints the last line of a check, and returns its status."""
-        print(f"{self.passed} passed, {self.failed} failed")
-        return 1 if self.failed or not self.passed else 0
+        print(f"{self.passed} passed, {self.failed} failed, {self.skipped} skipped")
+        return 1 if self.failed or not self.passed + self.skipped else 0
 
 
 @contextlib.contextmanager

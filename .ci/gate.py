@@ -2,15 +2,17 @@
 """The checks of the repository, as parts that run side by side.
 
     gate.py test                    what a person runs: every test run with each access checked, the product proved, and all that
-                                    can be tried on one build of it
+                                    can be tried on one build of it. It first installs what the tests need, where it may
+                                    (tools/setup.py); with SETUP=no it installs nothing
     gate.py gate [BUGS=..]          everything from nothing: also the proofs of all tests, both builds, and the planted bugs
                                     (with BUGS=changed only those that a difference from the last landed commit affects; with
                                     BUGS=landing those that one from the last release affects, and a tenth of the others)
     gate.py check [CRATE=name]      proofs and tests of what has changed, over cached proofs: no planted bug is tried. With CRATE
                                     only of that crate and of what it depends on; it may also be the folder of a crate elsewhere
 
-Each part ends with 'N passed, M failed'. All that it said is in the folder out/, and is shown where it fails. At the end comes
-a table of the parts, and then a line that adds them up. TERM, HUP and Ctrl-C end all parts.
+Each part ends with 'N passed, N failed, N skipped'. All that it said is in the folder out/, and is shown where it fails. At the end
+come a table of the parts, what was skipped and for want of what, and then a line that adds them up. TERM, HUP and Ctrl-C end all
+parts.
 
 `rt ci` works on a copy of the repository without the planted bugs, so that it proves everything from nothing. The planted bugs
 are tried beside it, many in one check (planted_bugs.py). A check over the same cached proofs that `test` has passed on these very
@@ -18,6 +20,7 @@ files isn't run again by `gate`, and a line says so.
 """
 import contextlib
 import dataclasses
+import fcntl
 import os
 import pathlib
 import re
@@ -28,9 +31,11 @@ import tempfile
 import threading
 import time
 
-from checking import ONE_BUILD, ROOT, crates, says
+from checking import COUNT, ONE_BUILD, ROOT, SKIPPED, VARIANT, crates, says
 from packing import sum_of
 from processes import end_on_signals, run_to_end, started, workers
+from setup import set_up
+from workspace import need_rattle
 
 # The checks. Those in `built` run programs, and those in `proofs` go over cached proofs.
 CHECKS = ROOT / ".ci/checks"
@@ -47,14 +52,13 @@ TIMED = ("bindings.py", "web.py")
 PRODUCT = ("imgref_run", "imgref_frames", "imgref_c")
 # What each takes from nothing on four processors, in minutes.
 MINUTES = {"test": 15, "gate": 90, "check": 15}
-COUNT = re.compile(r"(\d+) passed, (\d+) failed")
 # What is shown of a long part while it goes on: each proof that has ended, and what failed.
 ENDED = re.compile(r"== (\w+(?:: its tests)?)$")
 # Proof progress, of which a line is shown now and then.
 PROGRESS, EVERY = re.compile(r"\d+:\d\d +[\d.]+ %"), 20
 TOLD = re.compile(r"rt: .*NOT PROVED|rt: .*FAILED|.*NOT REFUSED|.*FAILED")
 LOGS = ROOT / "out"
-# The sum of the files on which every part of `test` passed last.
+# The sum of the files on which every part of `test` passed last, with nothing skipped.
 TESTED = LOGS / "tested"
 SAID = threading.Lock()
 
@@ -83,6 +87,10 @@ class Part:
     memory: int = 0
     passed: int = 0
     failed: int = 0
+    skipped: int = 0
+    # (what it skipped, and what it left: each with its number and with what is lacking)
+    lacked: list = dataclasses.field(default_factory=list)
+    left: list = dataclasses.field(default_factory=list)
     process: subprocess.Popen = None
 
     def run(self):
@@ -108,16 +116,17 @@ class Part:
         self.count(lines, self.process.returncode == 0)
         if self.failed:
             say("\n".join(["", *lines[-400:], ""]))
-        say(f"{minutes(self.seconds)}  {self.name}: {self.passed} passed, {self.failed} failed{f' (all of it: {log.relative_to(ROOT)})' if self.failed else ''}")
+        say(f"{minutes(self.seconds)}  {self.name}: {self.passed} passed, {self.failed} failed, {self.skipped} skipped{f' (all of it: {log.relative_to(ROOT)})' if self.failed else ''}")
         return self
 
     def count(self, lines, is_well):
         """Takes the cases from the last line. A part that counts nothing is one case."""
         said = COUNT.fullmatch(next((it.strip() for it in reversed(lines) if it.strip()), ""))
-        passed, failed = map(int, said.groups()) if said else (0, 1)
+        passed, failed, self.skipped = (int(it or 0) for it in said.groups()) if said else (0, 1, 0)
         if not self.counts:
-            passed, failed = int(is_well), int(not is_well)
+            passed, failed, self.skipped = int(is_well), int(not is_well), 0
         self.passed, self.failed = passed, failed or int(not is_well)
+        self.lacked, self.left = SKIPPED.findall("\n".join(lines)), VARIANT.findall("\n".join(lines))
 
 
 def sessions():
@@ -274,28 +283,69 @@ def building(*names):
 def table(parts, most, began):
     """What each part took."""
     width = max(len(it.name) for it in parts)
-    lines = [f"{it.name:{width}}  {minutes(it.seconds):>12}  {it.memory / 1e9:4.1f} GB  {it.passed:4} passed, {it.failed} failed" for it in parts]
+    lines = [f"{it.name:{width}}  {minutes(it.seconds):>12}  {it.memory / 1e9:4.1f} GB  {it.passed:4} passed, {it.failed} failed, {it.skipped} skipped" for it in parts]
     return "\n".join(["", *lines, f"{'in all':{width}}  {minutes(time.monotonic() - began):>12}  {most / 1e9:4.1f} GB"])
 
 
+def lacking(parts):
+    """What was skipped, part by part, and for want of what. Then the variants that Debian has no package of, which count as nothing."""
+    rows = [(number, f"{it.name}: {what}", why) for it in parts for what, number, why in it.lacked]
+    width = min(max([len(row[1]) for row in rows], default=0), 90)
+    lines = ["", "Skipped, and for want of what:", *(f"{number:>5}  {what[:90]:{width}}  {why}" for number, what, why in rows)] if rows else []
+    variants = dict.fromkeys(why for it in parts for _, why in it.left)
+    return "\n".join([*lines, *(["", f"Not tried here, and not counted: {', '.join(variants)}"] if variants else [])])
+
+
+WAYS = {"test": test, "gate": gate, "check": check}
+
+
 def main(words):
-    ways = {"test": test, "gate": gate, "check": check}
     only = {"": [], "changed": ["--changed"], "landing": ["--landing"]}.get(os.environ.get("BUGS", ""))
-    if len(words) != 1 or words[0] not in ways or only is None:
+    if len(words) != 1 or words[0] not in WAYS or only is None:
         sys.exit(__doc__)
+    need_rattle()
+    if words[0] == "test" and os.environ.get("SETUP") != "no":
+        set_up(of_gate=False)
+    with alone(words[0]):
+        return work(words[0], only)
+
+
+@contextlib.contextmanager
+def alone(way):
+    """Keeps a second run of this script out of the checkout until the end of the block: it would write the same files."""
+    try:
+        LOGS.mkdir(exist_ok=True)
+        kept = open(LOGS / "working", "a+", encoding="utf-8")
+    except OSError as why:
+        sys.exit(f"this needs a checkout that it can write into: {why}")
+    with kept:
+        try:
+            fcntl.flock(kept, fcntl.LOCK_EX | fcntl.LOCK_NB)
+        except OSError:
+            kept.seek(0)
+            sys.exit(f"{kept.read()} works in this checkout: wait for its end, or take another clone")
+        kept.truncate(0)
+        kept.write(f"make {way} (process {os.getpid()})")
+        kept.flush()
+        yield
+
+
+def work(way, only):
+    """Runs the parts, and says what came of them."""
     began, parts = time.monotonic(), []
-    LOGS.mkdir(exist_ok=True)
-    if words[0] == "test":
+    if way == "test":
         TESTED.unlink(missing_ok=True)
         files = sum_of_files()
-    say(f"About {MINUTES[words[0]]} minutes from nothing on four processors (here: {len(os.sched_getaffinity(0))}), less with cached proofs.")
+    say(f"About {MINUTES[way]} minutes from nothing on four processors (here: {len(os.sched_getaffinity(0))}), less with cached proofs.")
     with Memory(parts) as memory:
-        ways[words[0]](parts, only)
-    passed, failed = sum(it.passed for it in parts), sum(it.failed for it in parts)
+        WAYS[way](parts, only)
+    passed, failed, skipped = (sum(getattr(it, what) for it in parts) for what in ("passed", "failed", "skipped"))
     say(table(parts, memory.most, began))
-    if words[0] == "test" and not failed and files and files == sum_of_files():
+    if said := lacking(parts):
+        say(said)
+    if way == "test" and not failed and not skipped and files and files == sum_of_files():
         TESTED.write_text(files)
-    say(f"{passed} passed, {failed} failed")
+    say(f"{passed} passed, {failed} failed, {skipped} skipped")
     return failed > 0
 
 

@@ -4,10 +4,9 @@ import pathlib
 import re
 import subprocess
 
-from checking import ROOT
+from checking import COUNT, ROOT, SKIPPED, VARIANT
 
 WARNINGS = ["-Wall", "-Wextra", "-Werror", "-pedantic"]
-COUNT = re.compile(r"(\d+) passed, (\d+) failed")
 RUST_COUNT = re.compile(r"test result: \w+\. (\d+) passed; (\d+) failed")
 
 
@@ -17,26 +16,19 @@ def run(words, **more):
     return ran.returncode, ran.stdout, (ran.stdout + ran.stderr).decode(errors="replace")
 
 
-def counted(cases, label, said, status, form=COUNT):
-    """Takes the cases that a program counted."""
+def counted(cases, label, said, status, form=COUNT, has_skips=True):
+    """Takes the cases that a program counted, and what it skipped. What another Python lacks isn't
+    looked at: no package of Debian's is for that one."""
     found = form.search(said)
-    passed, failed = map(int, found.groups()) if found else (0, 1)
+    passed, failed = map(int, found.groups()[:2]) if found else (0, 1)
     cases.passed, cases.failed = cases.passed + passed, cases.failed + failed
+    for what, number, lacking in SKIPPED.findall(said) if has_skips else ():
+        cases.skip(f"{label}: {what}", *lacking.split(" and no "), number=int(number))
+    for what, variant in VARIANT.findall(said) if has_skips else ():
+        cases.leave(f"{label}: {what}", variant)
     if failed or status:
         print(said)
     cases.count(f"{label}: {passed} passed, {failed} failed, and its end", status == 0 and found)
-
-
-def skipped(name):
-    """Says that something isn't tried, since it isn't on the machine."""
-    print(f"{name}: skipped, it isn't on this machine")
-
-
-def say_skipped(said):
-    """Says what a program that was tried has skipped."""
-    for line in said.splitlines():
-        if "skipped" in line:
-            print(line)
 
 
 def installed(cases, room):

@@ -8,7 +8,7 @@ is on its page.
 Every other block has a row in OTHERS, which names the check that tries it, or says why nothing does. A block without a row fails,
 and so does a row without a block.
 
-What isn't built, or what the machine lacks, is named as skipped with the reason, and counts as neither.
+What the machine lacks is skipped. Where a program or the library isn't built, nothing of it can be shown, and that fails.
 """
 import contextlib
 import os
@@ -20,8 +20,8 @@ import sys
 import tempfile
 import zipfile
 
-from checking import ROOT, built
-from library import COUNT, run
+from checking import COUNT, ROOT, built
+from library import run
 from workspace import is_proved, room
 
 import c_library
@@ -71,10 +71,6 @@ MADE = {
     "page.png": "ffmpeg -v error -f lavfi -i testsrc2=size=480x270:rate=1:duration=1 -frames:v 1 {}",
     "scan.png": "ffmpeg -v error -f lavfi -i testsrc2=size=480x270:rate=1:duration=1 -frames:v 1 -pix_fmt monob {}",
 }
-
-
-def skip(label, reason):
-    print(f"{label}: skipped, {reason}")
 
 
 def blocks(page):
@@ -134,7 +130,7 @@ def run_python(cases, pages, folder):
         needs_numpy = "numpy" in "".join(it for it in blocks(page) if it.startswith(">>> "))
         python = numpy_python(needs_numpy)
         if not python:
-            skip(page.relative_to(ROOT), "no Python with its headers" + (" and NumPy" if needs_numpy else ""))
+            cases.skip(f"{page.relative_to(ROOT)}: its examples in Python", "python3-dev", *["python3-numpy"] * needs_numpy)
             continue
         if python not in packages:
             made = folder / f"package{len(packages)}"
@@ -157,7 +153,7 @@ def run_c(cases, page, block, folder):
     compiler = shutil.which("c++" if is_cpp else os.environ.get("CC", "cc"))
     label = f"{page.relative_to(ROOT)}: {block.splitlines()[0]} .."
     if not compiler:
-        return skip(label, "no compiler")
+        return cases.skip(label, "g++" if is_cpp else "gcc")
     text = block if "main(" in block else f"{HEADERS}int main() {{\n{block}}}\n"
     source = folder / ("shown.cpp" if is_cpp else "shown.c")
     source.write_text(text)
@@ -173,8 +169,8 @@ def run_c(cases, page, block, folder):
 def run_rust(cases, page, block, folder):
     """A program in Rust, or a part of one."""
     label = f"{page.relative_to(ROOT)}: {block.splitlines()[0]} .."
-    if not shutil.which("cargo"):
-        return skip(label, "no cargo")
+    if cases.lacks(label, "cargo"):
+        return None
     wrapped = f"#![allow(dead_code)]\nfn main() -> Result<(), Box<dyn std::error::Error>> {{\n{block}Ok(())\n}}\n"
     (folder / "rust/src").mkdir(parents=True, exist_ok=True)
     (folder / "rust/Cargo.toml").write_text(CARGO.format(folder / "package-rust"))
@@ -192,9 +188,8 @@ def outputs(block):
 def run_shell(cases, page, block, folder, programs):
     """Commands of a page, in a folder with small inputs. They end with status 0, and what they write is there."""
     label = f"{page.relative_to(ROOT)}: {block.splitlines()[0][:70]} .."
-    missing = [it for it in TOOLS if re.search(rf"\b{it}\b", block) and not shutil.which(it)]
-    if missing or not shutil.which("ffmpeg"):
-        return skip(label, f"no {' and no '.join(missing or ['ffmpeg'])}")
+    if cases.lacks(label, "ffmpeg", *(it for it in TOOLS if re.search(rf"\b{it}\b", block))):
+        return None
     at = pathlib.Path(tempfile.mkdtemp(dir=folder))
     for name in ("in", "out", "bin"):
         (at / name).mkdir()
@@ -236,7 +231,7 @@ def run_filter(cases):
     refused = re.search(r"(?ms)^```rust\n(.*?)^```$", tutorial)[1].replace("{SameOutside,", "{Fits, SameOutside,")
     refused += "\n" + code[code.index("pub fn invert") :].replace("pub fn invert", "pub fn other").replace("|p| 255 - p", "|p| 254 - p")
     if not is_proved("imgref"):
-        return skip("README.md: a filter", "the crate imgref isn't proved")
+        return cases.count("README.md: a filter", False, "the crate imgref isn't proved")
     with crate_of_readme(commands) as (crate, said):
         cases.count("README.md: the commands that make a crate", not said, said)
         (crate / "src/lib.rt").write_text(code)
@@ -255,7 +250,9 @@ def run_all(cases, pages):
     programs = [*built("imgref_frames", ("",)), *built("imgref_run", ("",))]
     with tempfile.TemporaryDirectory(prefix="shown-", ignore_cleanup_errors=True) as folder:
         folder = pathlib.Path(folder)
-        if is_proved(c_library.NAME) and shutil.which("objcopy"):
+        if cases.lacks("what the pages show in C, C++, Python and Rust", "binutils", number=20):
+            pass
+        elif is_proved(c_library.NAME):
             c_library.build()
             run_python(cases, list(dict.fromkeys(page for page, block in shown if language(block) == "Python")), folder)
             for page, block in shown:
@@ -264,10 +261,10 @@ def run_all(cases, pages):
                 elif language(block) == "Rust":
                     run_rust(cases, page, block, folder)
         else:
-            skip("C, C++, Python and Rust", "the library for C isn't built")
+            cases.count("what the pages show in C, C++, Python and Rust", False, "the library for C isn't built")
         for page, block in shown:
             if language(block) == "shell" and len(programs) == 2:
                 run_shell(cases, page, block, folder, programs)
     if len(programs) != 2:
-        skip("commands of a shell", "the programs aren't built")
+        cases.count("what the pages show in a shell", False, "the programs aren't built")
     run_filter(cases)

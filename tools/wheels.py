@@ -22,6 +22,10 @@ except backend.Failure as why: sys.exit(str(why))"""
 ASKS = "import os, sys, sysconfig; print(*sys.version_info[:2]) if os.path.isfile(sysconfig.get_path('include') + '/Python.h') and sys.implementation.name == 'cpython' else 0"
 
 
+# With this variable a release is tried without the wheel for Python 3.10, where the machine has no such Python.
+STABLE_ALONE = "IMGREF_STABLE_ALONE"
+
+
 def pythons():
     """The Pythons of this machine that have headers, by their version."""
     found = {}
@@ -33,19 +37,19 @@ def pythons():
 
 
 def chosen():
-    """The Python that builds the wheels with the stable ABI, and that of 3.10."""
+    """The Python that builds the wheels with the stable ABI, and that of 3.10. With STABLE_ALONE the last may be lacking."""
     found = pythons()
     stable = [path for version, path in sorted(found.items()) if version >= (3, 11)]
-    for lacking, name in ((not stable, "3.11 or later"), ((3, 10) not in found, "3.10")):
+    for lacking, name in ((not stable, "3.11 or later"), ((3, 10) not in found and STABLE_ALONE not in os.environ, "3.10")):
         if lacking:
             raise Failure(f"no Python {name} with its headers is on this machine (python3-dev, or pyenv install)")
-    return stable[0], found[3, 10]
+    return [stable[0], *([found[3, 10]] if (3, 10) in found else [])]
 
 
 def build(folder):
     """Writes the wheels into a folder."""
-    stable, old = chosen()
-    for python, its in ((stable, libraries.HERE), (stable, libraries.OTHER), (old, libraries.HERE)):
+    stable, *old = chosen()
+    for python, its in ((stable, libraries.HERE), (stable, libraries.OTHER), *((it, libraries.HERE) for it in old)):
         env = os.environ | {"IMGREF_INCLUDE": str(HEADER.parent), "IMGREF_LIB": str(its.out()), "LC_ALL": "C"}
         if its != libraries.HERE:
             env["CC"] = f"{its.tools}gcc"

@@ -343,11 +343,11 @@ class Firefox(Session):
 
 
 @contextlib.contextmanager
-def firefox():
-    """Firefox until the end of the block, or None where this machine lacks it."""
+def firefox(cases, label):
+    """Firefox until the end of the block, or None where this machine lacks it: then what needs it is skipped."""
     program = found(FIREFOXES)
     if not program:
-        print("Firefox (firefox-esr): skipped, it isn't on this machine")
+        cases.skip(label, "firefox-esr")
         yield None
         return
     with tempfile.TemporaryDirectory(prefix="firefox-", ignore_cleanup_errors=True) as room:
@@ -359,14 +359,11 @@ def firefox():
 
 
 @contextlib.contextmanager
-def browser():
-    """A browser until the end of the block, or None where this machine lacks one or its driver."""
+def browser(cases, label):
+    """A browser until the end of the block, or None where this machine lacks one or its driver: then what needs it is skipped."""
     program, driver = found(BROWSERS), found(DRIVERS)
     if not program or not driver:
-        missing = " and ".join(
-            name for name, it in (("chromium", program), ("chromedriver", driver)) if not it
-        )
-        print(f"browser ({missing}): skipped, it isn't on this machine")
+        cases.skip(label, *(name for name, it in (("chromium", program), ("chromium-driver", driver)) if not it))
         yield None
         return
     with tempfile.TemporaryDirectory(prefix="browser-", ignore_cleanup_errors=True) as room:

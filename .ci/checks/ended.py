@@ -96,7 +96,7 @@ def tried(top, room, words, number):
     where all is well."""
     waiting = room / "waiting"
     waiting.unlink(missing_ok=True)
-    env = os.environ | {"PATH": f"{room}:{os.environ['PATH']}", "WAITING": str(waiting), "SCRIPT": "examples/first.script"}
+    env = os.environ | {"PATH": f"{room}:{os.environ['PATH']}", "WAITING": str(waiting), "SCRIPT": "examples/first.script", "SETUP": "no"}
     tool = subprocess.Popen([sys.executable, *words], cwd=top, env=env, stdin=subprocess.DEVNULL, stdout=subprocess.DEVNULL, stderr=subprocess.DEVNULL, start_new_session=True)
     try:
         if not until(lambda: waiting.exists() and waiting.read_text().endswith("\n")):

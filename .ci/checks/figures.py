@@ -14,12 +14,12 @@ bench/tables.md. A page that says it otherwise fails. So do other numbers.
 import functools
 import pathlib
 import re
+import shutil
 import subprocess
 import sys
 
 sys.path.insert(0, str(pathlib.Path(__file__).resolve().parents[1]))
 from checking import ROOT, Cases
-from library import skipped
 from workspace import with_those_below
 
 # The pages with figures, and the crates that are timed there, with those below them.
@@ -153,6 +153,8 @@ def write():
 
 def git(*words):
     """The output of a command of git here, or nothing where it fails."""
+    if not shutil.which("git"):
+        return None
     ran = subprocess.run(["git", "-C", ROOT, *words], capture_output=True, text=True)
     return ran.stdout.strip() if ran.returncode == 0 else None
 
@@ -160,7 +162,7 @@ def git(*words):
 def ages(cases):
     """The commit of each page, and how many have changed the timed crates since."""
     if git("rev-parse", "--is-shallow-repository") != "false":
-        skipped("the commits of figures (a history)")
+        cases.skip("the commits of figures", "history", number=len(PAGES))
         cases.count("the pages with figures are there", all((ROOT / it).is_file() for it in PAGES))
         return
     for page, timed in PAGES.items():

@@ -3,8 +3,7 @@
 frames: with --hold nothing of the figure is left in any frame. examples/detect_faces.py finds a drawn face.
 
 examples/review.py shows the covers, and examples/hide_faces.py does all of it from one file to another. Both builds are run that
-`rt ci` leaves. Where no Python of the machine has OpenCV, or where another tool is missing, cases are left out, and a line says
-'skipped'.
+`rt ci` leaves. Where no Python of the machine has OpenCV, or where another tool is missing, cases are skipped.
 """
 import os
 import pathlib
@@ -133,7 +132,7 @@ def by_faces(cases, program, python):
         wrote = made.read_bytes() if made.exists() else b""
         left = [number for number, (plane, places) in enumerate(zip(planes(wrote), shown)) if any(plane[at] != BLACK for at in places)] if wrote else None
         cases.count("the face that is found is covered in each frame", done.returncode == 0 and len(planes(wrote)) == FRAMES and left == [], f"{left} {done.stderr}")
-        if python_with("PIL"):
+        if not cases.lacks("a sheet of the covers", "python3-pil"):
             by_review(cases, folder)
 
 
@@ -197,19 +196,15 @@ def by_wrong_files(cases, python):
 def main():
     cases, python = Cases(), python_with("cv2")
     by_usage(cases)
-    if python:
-        by_wrong_files(cases, python)
-    for program in both_builds(cases, "imgref_frames"):
-        if python:
-            by_detector(cases, str(program), python)
-            by_faces(cases, str(program), python)
-            if shutil.which("ffmpeg"):
-                by_one_command(cases, str(program), python)
-    if not python:
-        print("what OpenCV finds: skipped, no Python here has cv2", flush=True)
-    for it in ("ffmpeg", *(() if python_with("PIL") else ("Python with PIL",))):
-        if not shutil.which(it):
-            print(f"skipped: this machine has no {it}", flush=True)
+    programs = both_builds(cases, "imgref_frames")
+    if cases.lacks("what OpenCV finds", "python3-opencv", "opencv-data", number=8 + len(SAMPLINGS) + 9 * len(programs)):
+        return cases.end()
+    by_wrong_files(cases, python)
+    for program in programs:
+        by_detector(cases, str(program), python)
+        by_faces(cases, str(program), python)
+        if not cases.lacks("one command from a video to another", "ffmpeg", number=3):
+            by_one_command(cases, str(program), python)
     return cases.end()
 
 

@@ -224,7 +224,7 @@ def by_notes(cases, program):
 def by_owners(cases, program):
     """A file of another owner keeps its owner, or is refused, and its permissions don't become another owner's."""
     if os.geteuid() != 0:
-        print("the owner of an output isn't tried: that needs root")
+        cases.skip("the owner of an output", "root", number=2)
         return
     made, words = video("mono"), FILL.split()
     out = ends(program, words, made)[0]

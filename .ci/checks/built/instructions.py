@@ -14,14 +14,12 @@ import concurrent.futures
 import os
 import pathlib
 import re
-import shutil
 import subprocess
 import sys
 import tempfile
 
 sys.path.insert(0, str(pathlib.Path(__file__).resolve().parents[2]))
 from checking import ROOT, Cases, built
-from library import skipped
 
 FILE = ROOT / "bench/instructions.txt"
 # The jobs whose time is waiting for memory, of which misses count too.
@@ -97,8 +95,7 @@ def main(words):
     programs = {crate: path for crate in needed for path in built(crate, ("",))}
     for crate in needed:
         cases.count(f"the build of {crate} is there", crate in programs, f"crates/{crate}/out lacks it, or it is older than its sources")
-    if not shutil.which("valgrind"):
-        skipped("the instructions of the jobs (valgrind)")
+    if cases.lacks("the instructions of the jobs", "valgrind", number=3 * len(names)):
         return cases.end()
     found = all_counted(programs, names)
     if "--write" in words and found:

@@ -2,12 +2,10 @@
 """Shows what imgref_frames does with pictures: by a model that shares nothing with it, and by netpbm.
 
 Small pictures of each kind with samples of one byte and of two, several one after the other, each beginning of them, each byte of their heads changed, and hidden
-pixels exchanged. Both builds are run that `rt ci` leaves. Where the machine has no netpbm, the cases with it are left out, and
-a line says 'skipped'.
+pixels exchanged. Both builds are run that `rt ci` leaves. Where the machine has no netpbm, the cases with it are skipped.
 """
 import pathlib
 import random
-import shutil
 import subprocess
 import sys
 import tempfile
@@ -196,10 +194,8 @@ def main():
         by_model(cases, str(program))
         by_tuples(cases, str(program))
         by_reasons(cases, str(program))
-        if shutil.which("pamcut"):
+        if not cases.lacks("edits beside netpbm's", "netpbm"):
             by_netpbm(cases, str(program))
-    if not shutil.which("pamcut"):
-        print("skipped: this machine has no pamcut")
     return cases.end()
 
 

@@ -7,7 +7,7 @@ detectors of OpenCV are replaced, by one that finds the square. In each file a l
 by their number, and without this number it leaves the square visible: so the cases would see it.
 
 The build of LLVM is run, since the other checks compare both builds. Where the machine lacks ffmpeg, zsh or a Python with numpy
-and PIL, those cases are left out, and a line says 'skipped'.
+and PIL, those cases are skipped.
 """
 import bisect
 import math
@@ -288,7 +288,7 @@ def by_kinds(cases, program, python):
                 by_recipe(cases, f"recipe {number}, {label}", "bash", script, folder, environment)
             by_decoded_frames(cases, label, folder, environment)
         for number, script in enumerate(found, 1):
-            if shutil.which("zsh"):
+            if not cases.lacks(f"recipe {number} in zsh", "zsh", number=4):
                 by_recipe(cases, f"recipe {number} in zsh", "zsh", script, folder, environment)
             by_recipe(cases, f"recipe {number} for people", "bash", script.replace("detect_faces", "detect_people"), folder, environment)
         by_recipe(cases, "one command", "bash", BY_COMMAND, folder, environment)
@@ -306,12 +306,14 @@ def by_kinds(cases, program, python):
 def main():
     cases, python = Cases(), python_with_both()
     programs = both_builds(cases, "imgref_frames")[:1]
-    missing = [it for it in ("ffmpeg", "ffprobe") if not shutil.which(it)] + ([] if python else ["a Python with numpy and PIL"])
+    label, number = "the recipes of docs/FRAMES.md with a detector", 6 * (4 * len(recipes()) + 2)
+    if cases.lacks(label, "ffmpeg", "python3-numpy", "python3-pil", number=number):
+        return cases.end()
+    if not python:
+        cases.skip(f"{label}, by one Python", "python3-numpy", "python3-pil", number=number)
+        return cases.end()
     for program in programs:
-        if not missing:
-            by_kinds(cases, program, python)
-    for it in [*missing, *([] if shutil.which("zsh") else ["zsh"])]:
-        print(f"skipped: this machine has no {it}")
+        by_kinds(cases, program, python)
     return cases.end()
 
 

@@ -5,7 +5,7 @@ It is made from two copies of the repository in two folders, each with a commit 
 same bytes. What must be refused is refused, and a planted mistake is found. The packages are installed and tried in a root of
 Debian's without the toolchain and without a network, and the libraries for aarch64 under qemu.
 
-The root is made by debootstrap once, and kept in ROOTS for later runs. What isn't on the machine is named as skipped.
+The root is made by debootstrap once, and kept in ROOTS for later runs. What isn't on the machine is skipped.
 """
 import concurrent.futures
 import contextlib
@@ -20,7 +20,7 @@ import tempfile
 
 sys.path.insert(0, str(pathlib.Path(__file__).resolve().parents[2]))
 from checking import ROOT, Cases, crates
-from library import counted, run, skipped
+from library import counted, run
 
 import web
 import wheels
@@ -207,13 +207,14 @@ def provenance(cases, release):
 
 
 def make_root(name):
-    """A root of Debian's, made once, or None with the reason."""
+    """A root of Debian's, made once, or the name of what is lacking for it."""
     made, words = ROOTS / name, WORDS[name]
     if (made / "made").is_file():
         return made
-    if not shutil.which("debootstrap") or os.getuid():
-        skipped(f"the root {name} (debootstrap, as root)")
-        return None
+    if not shutil.which("debootstrap"):
+        return "debootstrap"
+    if os.getuid():
+        return "root"
     shutil.rmtree(made, ignore_errors=True)
     made.mkdir(parents=True)
     try:
@@ -222,8 +223,7 @@ def make_root(name):
         status, said = 1, "it takes longer than ten minutes"
     if status:
         print(said[-2000:])
-        skipped(f"the root {name} (a mirror of Debian's)")
-        return None
+        return "mirror of Debian"
     for it in sorted(made.glob("var/cache/apt/archives/*.deb")):
         if "--foreign" in words:
             run(["dpkg-deb", "-x", it, made])
@@ -265,8 +265,7 @@ def snippet(page, first):
 
 def by_lintian(cases, release):
     """The Debian packages keep Debian's rules."""
-    if not shutil.which("lintian"):
-        skipped("Debian's rules (lintian)")
+    if cases.lacks("Debian's rules", "lintian"):
         return
     status, _, said = run(["lintian", "--fail-on", "error", *["--allow-root"] * (not os.getuid()), *sorted(release.glob("*.deb"))])
     cases.count("lintian has no error", status == 0, said)
@@ -275,11 +274,12 @@ def by_lintian(cases, release):
 def tried_inside(cases, release, room):
     """The packages where there is no toolchain and no network, each as its page says."""
     made = MADE["amd64"].result()
-    if not made:
+    if isinstance(made, str):
+        cases.skip("a release where there is no toolchain", made, number=12)
         return
     inside = Inside(made, room)
     if not shutil.which("unshare") or inside.run("true")[0]:
-        skipped("a root without the toolchain (unshare and an overlay, as root)")
+        cases.skip("a release where there is no toolchain", "namespaces", number=12)
         return
     given(room / "given", release)
     status, wrote, said = inside.run("command -v rt; ls /opt; cat /proc/net/dev | tail -n +3 | cut -d: -f1")
@@ -353,8 +353,7 @@ def wheel_of_each(cases, release, room):
 
 def on_aarch64(cases, release, room):
     """The library for aarch64 under qemu: the random calls beside the model, and the wheel in a Python of that processor."""
-    if not (shutil.which("aarch64-linux-gnu-gcc") and shutil.which("qemu-aarch64-static")):
-        skipped("aarch64 (aarch64-linux-gnu-gcc, qemu-aarch64-static)")
+    if cases.lacks("calls from C on aarch64", "aarch64-linux-gnu-gcc", "libc6-dev-arm64-cross", "qemu-aarch64-static", number=4):
         return
     top = room / "aarch64"
     top.mkdir()
@@ -374,8 +373,10 @@ def on_aarch64(cases, release, room):
 
 def wheel_on_aarch64(cases, release, room):
     """The wheel for aarch64 in Debian's Python of that processor under qemu: its import, and its tests that need no NumPy."""
-    made = MADE["arm64"].result()
-    if not made or not shutil.which("qemu-aarch64-static"):
+    made, label = MADE["arm64"].result(), "the wheel on aarch64"
+    if isinstance(made, str):
+        cases.skip(label, made, number=4)
+    if isinstance(made, str) or cases.lacks(label, "qemu-aarch64-static", number=4):
         return
     wheel = next(release.glob("*abi3*aarch64.whl"))
     shutil.unpack_archive(wheel, room / "wheel", "zip")
@@ -398,19 +399,21 @@ def side_by_side(cases, release, room):
 
     with concurrent.futures.ThreadPoolExecutor() as pool:
         for own in pool.map(tried, (tried_inside, on_aarch64, wheel_of_each, wheel_on_aarch64, planted, refusals)):
-            cases.passed, cases.failed = cases.passed + own.passed, cases.failed + own.failed
+            cases.add(own)
 
 
 def main():
     cases = Cases()
-    lacking = [it for it in ("git", "cargo", "dpkg-deb", "aarch64-linux-gnu-gcc", "readelf") if not shutil.which(it)]
+    cases.count("the version has its section", f"## [{VERSION}]" in (ROOT / "CHANGELOG.md").read_text())
+    if (3, 10) not in wheels.pythons():
+        cases.leave("the wheel of a release", "CPython 3.10")
+        os.environ[wheels.STABLE_ALONE] = "1"
+    if cases.lacks("a release", "git", "cargo", "aarch64-linux-gnu-gcc", "readelf", number=50):
+        return cases.end()
     try:
         wheels.chosen()
-    except Failure as why:
-        lacking.append(str(why))
-    if lacking:
-        skipped(f"a release ({', '.join(lacking)})")
-        cases.count("the version has its section", f"## [{VERSION}]" in (ROOT / "CHANGELOG.md").read_text())
+    except Failure:
+        cases.skip("a release", "python3-dev", number=50)
         return cases.end()
     with tempfile.TemporaryDirectory(prefix="release-", ignore_cleanup_errors=True) as room, concurrent.futures.ThreadPoolExecutor() as beside:
         # (the first run of a machine makes the roots beside the release)

@@ -3,20 +3,17 @@
 
 At a stride near a multiple of 4096 bytes, or of a large part of it, rows share few sets of a cache. A turn may then have so many
 misses as a table here says, beside those at a stride of 4160. Each is done by the program bench_strides in valgrind's model of a
-cache of 32 KiB with eight lines in a set: so a count hardly depends on the machine. Without valgrind the cases are left out,
-and a line says 'skipped'.
+cache of 32 KiB with eight lines in a set: so a count hardly depends on the machine. Without valgrind the cases are skipped.
 """
 import concurrent.futures
 import os
 import pathlib
 import re
-import shutil
 import subprocess
 import sys
 
 sys.path.insert(0, str(pathlib.Path(__file__).resolve().parents[2]))
 from checking import Cases, built
-from library import skipped
 
 # The side of the square for pixels of so many bytes, so that a row has less than 2048.
 SIDES = {1: 500, 2: 500, 3: 250, 4: 300, 8: 200, 16: 125}
@@ -56,8 +53,7 @@ def main():
     cases = Cases()
     programs = built("bench_strides", ("",))
     cases.count("the build of bench_strides is there", programs, "crates/bench_strides/out lacks it, or it is older than its sources")
-    if not shutil.which("valgrind"):
-        skipped("the misses of turns (valgrind)")
+    if cases.lacks("the misses of turns", "valgrind", number=3 * len(SIDES)):
         return cases.end()
     with concurrent.futures.ThreadPoolExecutor(len(os.sched_getaffinity(0))) as pool:
         for program in programs:

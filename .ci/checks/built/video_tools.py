@@ -1,11 +1,9 @@
 #!/usr/bin/env python3
 """Shows what imgref_frames does beside other tools: by ffmpeg's filters, through the pipes of H.264, and by GNU parallel.
 
-Both builds are run that `rt ci` leaves. Where the machine has no ffmpeg or no GNU parallel, the cases with it are left out, and a
-line says 'skipped'.
+Both builds are run that `rt ci` leaves. Where the machine has no ffmpeg or no GNU parallel, the cases with it are skipped.
 """
 import pathlib
-import shutil
 import subprocess
 import sys
 import tempfile
@@ -94,7 +92,7 @@ def by_parallel(cases, program):
         subprocess.run(["bash", "-c", commands[1]], cwd=folder, check=True, capture_output=True, timeout=120)
         cases.count("a folder of videos goes through parallel", all((made / f"{name}.y4m").read_bytes() == wanted(video(name, 100, 80), words.split())[0] for name in SAMPLINGS[1:]))
         cases.count("and a video that is there is left out", (made / "mono.y4m").read_bytes() == b"made before")
-        if not shutil.which("ffmpeg"):
+        if cases.lacks("ten videos through parallel", "ffmpeg", number=10):
             return
         for number in range(10):
             source = f"-f lavfi -i testsrc2=size=448x256:rate=25:duration=1 -vf negate=enable={number % 2}"
@@ -113,14 +111,12 @@ def by_parallel(cases, program):
 def main():
     cases = Cases()
     for program in both_builds(cases, "imgref_frames"):
-        if shutil.which("ffmpeg"):
+        if not cases.lacks("edits beside ffmpeg's filters, and H.264 through the pipe", "ffmpeg", number=87):
             by_ffmpeg(cases, str(program))
             by_boxblur(cases, str(program))
             by_h264(cases, str(program))
-        if shutil.which("parallel"):
+        if not cases.lacks("a folder of videos through parallel", "parallel", number=12):
             by_parallel(cases, str(program))
-    for missing in (it for it in ("ffmpeg", "parallel") if not shutil.which(it)):
-        print(f"skipped: this machine has no {missing}")
     return cases.end()
 
 

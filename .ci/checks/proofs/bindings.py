@@ -3,12 +3,11 @@
 the crate for Rust.
 
 It builds over what the proofs left, and works in a folder of its own. What isn't on the machine is
-named as skipped, and counts as neither.
+skipped. NumPy, OpenCV and PIL are those of the system's Python.
 """
 import json
 import os
 import pathlib
-import re
 import shutil
 import sys
 import tempfile
@@ -18,7 +17,8 @@ sys.path.insert(0, str(pathlib.Path(__file__).resolve().parents[2]))
 from checking import ROOT, Cases
 
 import version
-from library import RUST_COUNT, counted, installed, run, say_skipped, skipped
+from needs import imports
+from library import RUST_COUNT, counted, installed, run
 from python_package import HOOK, TRIED, described
 
 PYTHON = ROOT / "bindings/python"
@@ -52,24 +52,29 @@ def check_python(cases, room):
     wheels = [*(ROOT / "out/python").glob("imgref-*.whl")]
     cases.count("make python", status == 0 and len(wheels) == 1 and described(wheels[0]) in said, said)
     if status or run([sys.executable, "-m", "venv", room / "fresh"])[0]:
-        skipped("Python's package installed by pip (venv)")
+        cases.skip("Python's package installed by pip", "python3-venv", number=len(TESTS) + 5)
         return
     quiet = os.environ | {"PYTHONDONTWRITEBYTECODE": "1"}
     fresh = check_install(cases, room / "fresh", wheels[0], quiet)
     status, _, said = run([fresh, "calls.py"], cwd=PYTHON / "tests", env=quiet)
-    counted(cases, "Python, with nothing else installed: calls", said, status)
+    counted(cases, "Python, with nothing else installed: calls", said, status, has_skips=False)
     check_wheel(cases, fresh, quiet)
-    # (here are NumPy and PIL, where the machine has them)
-    run([sys.executable, "-m", "venv", "--system-site-packages", room / "venv"])
+    # (here are NumPy, OpenCV and PIL, where the machine has them)
+    run([with_arrays(), "-m", "venv", "--system-site-packages", room / "venv"])
     python = check_install(cases, room / "venv", wheels[0], quiet)
     for it, more in [*((it, {}) for it in TESTS), ("reentry", DEBUGGED)]:
         status, _, said = run([python, f"{it}.py"], cwd=PYTHON / "tests", env=quiet | more)
-        say_skipped(said)
         counted(cases, f"Python: {it}{', under a debug allocator' if more else ''}", said, status)
     check_pages(cases, "", python, quiet)
     check_sources(cases, room, python, quiet)
     check_hints(cases, room, python)
     check_pythons(cases, room, quiet)
+
+
+def with_arrays():
+    """The Python of this check, or that of the system where that one alone has NumPy, OpenCV or PIL."""
+    has = lambda python: sum(imports(python, it) for it in ("numpy", "cv2", "PIL"))
+    return max((sys.executable, "/usr/bin/python3"), key=has)
 
 
 def pythons():
@@ -96,9 +101,9 @@ def check_pythons(cases, room, quiet):
     library = {"IMGREF_INCLUDE": str(room / "prefix/include"), "IMGREF_LIB": str(room / "prefix/lib")}
     for it in TRIED:
         if not any(f"{version[0]}.{version[1]}" == it for version, _ in found.values()):
-            skipped(f"Python's package on CPython {it}")
+            cases.leave("Python's package", f"CPython {it}")
     if not any("debug" in it for it in found):
-        skipped("Python's package on a debug build (python3-dbg)")
+        cases.skip("Python's package on a debug build", "python3-dbg", number=len(QUICK) + 2)
     for name, (version, python) in found.items():
         built = unpacked(cases, name, python, room, quiet | library)
         if built:
@@ -117,7 +122,10 @@ def unpacked(cases, name, python, room, env):
     folder = pathlib.Path(tempfile.mkdtemp(dir=room))
     status, _, said = run([python, "-B", "-c", HOOK, PYTHON, folder], env=env)
     if "python3-dev" in said:
-        skipped(f"{name}: the headers of Python")
+        if "of the system" in name:
+            cases.skip(name, "python3-dbg" if "debug" in name else "python3-dev", number=len(QUICK) + 2)
+        else:
+            cases.leave(name, "headers of another Python")
         return None
     cases.count(f"the package for {name}", status == 0, said)
     for it in folder.glob("*.whl"):
@@ -130,14 +138,13 @@ def check_python_of(cases, name, python, env, tests):
         # (a debug build is slow, and finds more in each cycle)
         words = [f"{it}.py", *(["200"] if it == "cycles" and "debug" in name else [])]
         status, _, said = run([python, "-X", "faulthandler", *words], cwd=PYTHON / "tests", env=env | (DEBUGGED if it == "cycles" else {}))
-        counted(cases, f"{name}: {it}", said, status)
-    check_pages(cases, f"{name}: ", python, env)
+        counted(cases, f"{name}: {it}", said, status, has_skips=False)
+    check_pages(cases, f"{name}: ", python, env, has_skips=False)
 
 
 def check_by_valgrind(cases, room, found, env):
     """Cycles under valgrind, by the system's Python, or else by the last one of pyenv."""
-    if not found or not shutil.which("valgrind"):
-        skipped("Python's cycles under valgrind")
+    if cases.lacks("Python's cycles under valgrind", "valgrind") or not found:
         return
     system = [name for name in found if name.endswith("of the system")]
     name = (system or [*found])[-1]
@@ -148,11 +155,10 @@ def check_by_valgrind(cases, room, found, env):
         counted(cases, f"{name}: cycles under valgrind", said, status)
 
 
-def check_pages(cases, name, python, env):
+def check_pages(cases, name, python, env, has_skips=True):
     for page in PAGES:
         status, _, said = run([python, "pages.py", ROOT / page], cwd=PYTHON / "tests", env=env)
-        say_skipped(said)
-        counted(cases, f"{name}{page}", said, status)
+        counted(cases, f"{name}{page}", said, status, has_skips=has_skips)
 
 
 def check_install(cases, venv, wheel, quiet):
@@ -185,8 +191,7 @@ def check_sources(cases, room, python, quiet):
 def check_hints(cases, room, python):
     """The type hints, by mypy: those of the installed package, and what a user's code may say of
     it."""
-    if not shutil.which("mypy"):
-        skipped("Python's type hints (mypy)")
+    if cases.lacks("Python's type hints", "mypy", number=14):
         return
     head = "import imgref\n\nframe = imgref.Image(bytearray(6), 3, 2)\n"
     users = {
@@ -222,8 +227,7 @@ def check_versions(cases):
 
 def check_rust(cases, prefix, room):
     """The crate's own tests and examples, and a project that adds it by its path."""
-    if not shutil.which("cargo"):
-        skipped("Rust (cargo)")
+    if cases.lacks("the crate for Rust", "cargo", number=5):
         return
     crate = shutil.copytree(ROOT / "bindings/rust", room / "rust")
     found = os.environ | {"IMGREF_LIB": str(prefix / "lib"), "CARGO_TARGET_DIR": str(room / "target"), "RUSTFLAGS": "-D warnings"}
@@ -243,8 +247,7 @@ def check_rust(cases, prefix, room):
 
 def check_memory_of_rust(cases, crate, found):
     """The crate's own tests read no memory that isn't theirs or isn't written, as valgrind sees it."""
-    if not shutil.which("valgrind"):
-        skipped("the memory of the calls from Rust (valgrind)")
+    if cases.lacks("the memory of the calls from Rust", "valgrind"):
         return
     _, wrote, said = run(["cargo", "test", "--offline", "--lib", "--no-run", "--message-format=json"], cwd=crate, env=found)
     programs = [it["executable"] for it in map(json.loads, wrote.decode().splitlines()) if it.get("executable")]

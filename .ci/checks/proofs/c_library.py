@@ -2,7 +2,7 @@
 """The library for C as its users have it: built, installed, and called from C and C++.
 
 It builds over what the proofs left (tools/c_library.py), and installs into a folder of its own. The calls from C run with
-the address and the undefined behaviour sanitizer. What isn't on the machine is named as skipped, and counts as neither.
+the address and the undefined behaviour sanitizer. What isn't on the machine is skipped.
 """
 import os
 import pathlib
@@ -13,7 +13,7 @@ import tempfile
 
 sys.path.insert(0, str(pathlib.Path(__file__).resolve().parents[2]))
 from checking import ROOT, Cases
-from library import WARNINGS, counted, installed, run, say_skipped, skipped
+from library import WARNINGS, counted, installed, run
 
 from inspection import NEEDED, symbols
 from version import MAJOR, MINOR, PATCH, VERSION
@@ -32,6 +32,11 @@ target_link_libraries(with_shared imgref::imgref)
 add_executable(with_static main.c)
 target_link_libraries(with_static imgref::static)
 """
+
+
+def package(compiler):
+    """The package of a compiler that isn't there. Another one than the first of a system is one of the second."""
+    return {"cc": "gcc", "c++": "g++"}.get(compiler[0], "clang")
 
 
 def names(tool_words):
@@ -63,7 +68,7 @@ def check_c(cases, compiler, prefix, room):
     alone.write_text('#include "imgref.h"\nint main(void) { return 0; }\n')
     for compile_it in ([*compiler, "-std=c99"], ["c++", "-x", "c++"]):
         if not shutil.which(compile_it[0]):
-            skipped(compile_it[0])
+            cases.skip(f"the header alone, {' '.join(compile_it)}", package(compile_it))
             continue
         status, _, said = run([*compile_it, *WARNINGS, include, "-fsyntax-only", alone])
         cases.count(f"the header alone, {' '.join(compile_it)}", status == 0, said)
@@ -81,7 +86,7 @@ def check_cpp(cases, prefix, room):
     """The calls from C++, by the oldest standard that has the tests' braces and by the compiler's own."""
     compiler = os.environ.get("CXX", "c++").split()
     if not shutil.which(compiler[0]):
-        skipped(f"C++ ({compiler[0]})")
+        cases.skip("calls from C++", package(compiler), number=2)
         return
     for standard in (["-std=c++11"], []):
         label = " ".join(["calls.cpp", *standard])
@@ -97,19 +102,18 @@ def check_view(cases, prefix, room):
     compilers = dict.fromkeys([os.environ.get("CXX", "c++"), "clang++"])
     for compiler in (it.split() for it in compilers):
         if not shutil.which(compiler[0]):
-            skipped(f"C++ ({compiler[0]})")
+            cases.skip(f"view.cpp, {' '.join(compiler)}", package(compiler), number=3)
             continue
         for standard in ("-std=c++17", "-std=c++20", "-std=c++23"):
             label = f"view.cpp, {' '.join(compiler)} {standard}"
             if run([*compiler, standard, "-fsyntax-only", "-x", "c++", "/dev/null"])[0]:
-                skipped(label)
+                cases.leave(label, f"C++{standard[-2:]}")
                 continue
             words = [*standard.split(), "-O1", "-g", *WARNINGS, "-fsanitize=address,undefined", "-fno-sanitize-recover=all", f"-I{prefix / 'include'}"]
             status, _, said = run([*compiler, *words, ROOT / ".ci/c/view.cpp", "-o", room / "view", prefix / "lib/libimgref.a"])
             cases.count(label, status == 0, said)
             if status == 0:
                 status, _, said = run([room / "view"])
-                say_skipped(said)
                 counted(cases, f"calls of {label}", said, status)
     compiler = os.environ.get("CXX", "c++").split()
     if shutil.which(compiler[0]):
@@ -164,7 +168,7 @@ int main() {
         words = [*compiler, f"-std=c++{standard}", f"-I{prefix / 'include'}", "-fsyntax-only", file]
         file.write_text(f"#if {standard} > 17 && !defined(__cpp_consteval)\n#error\n#endif\n")
         if run(words)[0]:
-            skipped(f"what compiles by C++{standard}")
+            cases.leave("what compiles", f"C++{standard}")
             continue
         file.write_text(f"{head}return number; }}\n")
         status, _, said = run(words)
@@ -178,8 +182,7 @@ int main() {
 
 def check_cmake(cases, prefix, room):
     """A project of CMake finds the package, and links the shared object and the archive; also once the folder has moved."""
-    if not shutil.which("cmake"):
-        skipped("CMake (cmake)")
+    if cases.lacks("a project of CMake", "cmake", number=11):
         return
     project = room / "project"
     project.mkdir()
@@ -202,12 +205,10 @@ def check_man(cases, prefix):
     """The man pages have no fault of form. They name each call of the header, and each edit and command of the programs."""
     pages = {it.name: it.read_text() for it in sorted((prefix / "share/man").glob("*/*"))}
     cases.count("the man pages", list(pages) == ["imgref-boxes.1", "imgref_frames.1", "imgref_run.1", "imgref.3"], str(list(pages)))
-    if shutil.which("groff"):
+    if not cases.lacks("the form of the man pages", "groff", number=len(pages)):
         for it in sorted((prefix / "share/man").glob("*/*")):
             status, _, said = run(["groff", "-man", "-Tutf8", "-ww", "-z", it])
             cases.count(f"{it.name}: its form", status == 0 and not said, said)
-    else:
-        skipped("the form of the man pages (groff)")
     header = (prefix / "include/imgref.h").read_text()
     calls = set(re.findall(r"\b(imgref_\w+)\((?:size_t|(?:const )?uint\d+_t \*)", header)) | {f"imgref_u8_{it}" for it in re.findall(r"imgref_##NAME##_(\w+)\(", header)}
     lacking = [it for it in [*calls, *re.findall(r"#define (IMGREF_[A-Z_]+) \(", header)] if it not in pages.get("imgref.3", "")]
@@ -246,7 +247,7 @@ def check_staged(cases, prefix, room):
     status, _, said = run(["make", "-s", "install", "PREFIX=/opt/imgref", f"DESTDIR={room / 'stage'}"], cwd=ROOT)
     wanted = {f"opt/imgref/{name}": it.replace(os.fsencode(prefix), b"/opt/imgref") for name, it in files(prefix).items()}
     cases.count("make install with DESTDIR", status == 0 and files(room / "stage") == wanted, said)
-    if shutil.which("pkg-config"):
+    if not cases.lacks("pkg-config, with DESTDIR", "pkg-config", number=3):
         found = os.environ | {"PKG_CONFIG_PATH": str(room / "stage/opt/imgref/lib/pkgconfig")}
         answers = {
             "--variable=prefix": "/opt/imgref",
@@ -261,11 +262,9 @@ def check_staged(cases, prefix, room):
 def check_letterbox(cases, compiler, prefix, room):
     """The example in C, built by what pkg-config says of the installed package."""
     flags = ["-I" + str(prefix / "include"), "-L" + str(prefix / "lib"), "-limgref"]
-    if shutil.which("pkg-config"):
+    if not cases.lacks("the library's flags", "pkg-config"):
         _, wrote, said = run(["pkg-config", "--cflags", "--libs", "imgref"], env=os.environ | {"PKG_CONFIG_PATH": str(prefix / "lib/pkgconfig")})
         cases.count("pkg-config", wrote.decode().split() == flags, said)
-    else:
-        skipped("pkg-config")
     status, _, said = run([*compiler, "-O2", *WARNINGS, ROOT / "examples/c/letterbox.c", "-o", room / "letterbox", *flags, f"-Wl,-rpath,{prefix / 'lib'}"])
     cases.count("letterbox.c", status == 0, said)
     for label, words, given, wanted in (("a picture is cut and put into the middle", "4 2", PICTURE, FRAME), ("in colours", "3 1", COLOURS, WIDE_FRAME)):

@@ -6,8 +6,8 @@ what a person does: opens pictures, covers, undoes and saves. Saved files are co
 (.ci/frames.py) and with imgref_frames on the same picture. The layouts are compared with a model of
 scripts (.ci/model.py). Strokes, losses, the preview, saving and the ways to send are tried in Firefox
 too. All browsers run at the same time. A page with a wrong rule has to be found out. Where Chromium, its driver or
-Firefox isn't on the machine, what needs it is named as skipped. With the word --screenshots it writes
-those of the documents, and checks nothing.
+Firefox isn't on the machine, what needs it is skipped. With the word --screenshots it writes those of the documents, and checks
+nothing.
 """
 import base64
 import gzip
@@ -129,7 +129,7 @@ def check_served(cases):
 
 def check_page(cases, program):
     """All that needs a browser."""
-    with served(OUT) as (url, asked), served(OUT) as (other, other_asked), browser() as found:
+    with served(OUT) as (url, asked), served(OUT) as (other, other_asked), browser(cases, "the page in Chromium") as found:
         if not found:
             return
         page = picture.Page(found, url, cases)
@@ -171,7 +171,7 @@ def check_page(cases, program):
 
 def check_strokes(cases):
     """Strokes, and what is lost and shown, in a browser of their own. Then the same on a page that is wrong."""
-    with served(OUT) as (url, _), browser() as found:
+    with served(OUT) as (url, _), browser(cases, "strokes in Chromium") as found:
         if not found:
             return
         page = picture.Page(found, url, cases)
@@ -185,7 +185,7 @@ def check_strokes(cases):
 
 def check_firefox(cases):
     """What is tried in Firefox: saving, strokes, what is lost and shown, and the ways to send."""
-    with served(OUT) as (url, asked), served(OUT) as (other, other_asked), firefox() as found:
+    with served(OUT) as (url, asked), served(OUT) as (other, other_asked), firefox(cases, "the page in Firefox") as found:
         if not found:
             return
         page = picture.Page(found, url, Prefixed(cases, "Firefox"))
@@ -239,7 +239,7 @@ def check_wrong_page(cases):
             cases.count(f"the old rule is a change of {name}", text.count(old) == 1, old)
             (sources / name).write_text(text.replace(old, new))
         (out / "index.html").write_text(web.page(*web.PAGES["index.html"], sources))
-        with served(out) as (url, _), browser() as found:
+        with served(out) as (url, _), browser(cases, "a page with a wrong rule in Chromium") as found:
             if found:
                 faults = Faults()
                 page = picture.Page(found, url, faults)
@@ -268,7 +268,7 @@ def main(words):
     cases = Cases()
     if made(cases, "web"):
         if words == ["--screenshots"]:
-            with served(OUT) as (url, _), browser() as found:
+            with served(OUT) as (url, _), browser(cases, "the screenshots") as found:
                 shots.take(picture.Page(found, url, cases), ROOT / "docs")
             return cases.end()
         check_files(cases)

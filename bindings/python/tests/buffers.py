@@ -1,4 +1,4 @@
-"""An image as a buffer, its copies into and out of other buffers, and its planes. Prints 'N passed, M failed' last."""
+"""An image as a buffer, its copies into and out of other buffers, and its planes. Prints 'N passed, N failed, N skipped' last."""
 import array
 import struct
 

@@ -1,4 +1,4 @@
-"""Each call of the package. Prints a line for each case, and 'N passed, M failed'."""
+"""Each call of the package. Prints a line for each case, and 'N passed, N failed, N skipped'."""
 import array
 import copy
 import doctest

@@ -1,11 +1,11 @@
 """Pixels of several numbers, and images by the array interface, beside a plain model. Prints 'N
-passed, M failed' last."""
+passed, N failed, N skipped' last."""
 import array
 import ctypes
 import random
 import struct
 
-from counting import check, end, exported, numpy_or_none, raises
+from counting import check, end, exported, numpy_or_none, raises, skip
 from imgref import Image, Refused, Window
 
 
@@ -260,7 +260,7 @@ def of_pil():
     try:
         from PIL import Image as Pictures
     except ImportError:
-        print("PIL: skipped, it isn't installed")
+        skip("what is beside PIL", "python3-pil", 5)
         return
     for mode in ("L", "RGB", "RGBA", "I", "F"):
         picture = Pictures.new(mode, (3, 2), 7 if len(mode) == 1 else (7, 8, 9, 10)[: len(mode)])

@@ -12,7 +12,7 @@ KINDS = {"?": "bool", **dict.fromkeys("bhilqn", "signed"), **dict.fromkeys("BHIL
 ORDERS = {"": sys.byteorder, "@": sys.byteorder, "=": sys.byteorder, "^": sys.byteorder, "<": "little", ">": "big", "!": "big"}
 # What buffers of `exported` point to.
 kept = []
-passed = failed = 0
+passed = failed = skipped = 0
 
 
 def check(name, is_well):
@@ -21,9 +21,16 @@ def check(name, is_well):
     print(f"{name}: {'passed' if is_well else 'FAILED'}")
 
 
+def skip(name, package, number=1):
+    """Cases that can't be tried for want of a package of Debian's."""
+    global skipped
+    skipped += number
+    print(f"{name}: {number} skipped, no {package}")
+
+
 def end():
     """Prints the count, and ends the program."""
-    print(f"{passed} passed, {failed} failed")
+    print(f"{passed} passed, {failed} failed, {skipped} skipped")
     sys.exit(failed > 0 or not passed)
 
 
@@ -113,6 +120,6 @@ def numpy_or_none():
     try:
         import numpy
     except ImportError:
-        print("NumPy: skipped, it isn't installed")
+        skip("what is beside NumPy", "python3-numpy")
         return None
     return numpy

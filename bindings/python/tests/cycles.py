@@ -1,6 +1,6 @@
 """Cycles of objects with images in them, which the collector takes apart: in every kind of cycle,
 and over memory of every kind of owner. No program may end by a signal, the memory is right for as
-long as anyone asks, and nothing stays. Prints 'N passed, M failed' last.
+long as anyone asks, and nothing stays. Prints 'N passed, N failed, N skipped' last.
 
     cycles.py [COUNT]    how many cycles of each kind (1000)
 

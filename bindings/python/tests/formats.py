@@ -1,5 +1,5 @@
 """Each format of a number, and each format that is refused. Prints a line for each case, and 'N
-passed, M failed'."""
+passed, N failed, N skipped'."""
 import array
 import ctypes
 import struct

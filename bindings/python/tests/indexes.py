@@ -1,4 +1,4 @@
-"""What a user of NumPy types: indexes, slices and a fill of all pixels. Prints 'N passed, M failed'
+"""What a user of NumPy types: indexes, slices and a fill of all pixels. Prints 'N passed, N failed, N skipped'
 last."""
 import array
 import itertools

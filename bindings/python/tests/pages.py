@@ -1,6 +1,6 @@
 """The examples of a page, in one session. Those of a paragraph block that imports NumPy, and what
-follows up to the next `import`, are skipped where it isn't installed. Prints 'N passed, M failed'
-last.
+follows up to the next `import`, are skipped where it isn't installed. Prints 'N passed, N failed, N
+skipped' last.
 
     pages.py FILE..
 """
@@ -27,7 +27,7 @@ def main(pages):
     has_numpy = numpy_or_none() is not None
     results = [run(pathlib.Path(it), has_numpy) for it in pages]
     failed, tried = (sum(it) for it in zip(*results))
-    print(f"{tried - failed} passed, {failed} failed")
+    print(f"{tried - failed} passed, {failed} failed, {int(not has_numpy)} skipped")
     sys.exit(failed > 0 or not tried)
 
 

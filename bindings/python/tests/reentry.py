@@ -1,6 +1,6 @@
 """Code of the user's that runs in the middle of a call: it makes the image again, frees what it can, and takes memory of that
 size for itself. A call on an image must give what it gives without that code, and change nothing else. Then cycles.py, whose
-cycles the collector takes apart. Prints 'N passed, M failed' last.
+cycles the collector takes apart. Prints 'N passed, N failed, N skipped' last.
 
 Freed memory shows best under a debug allocator: PYTHONMALLOC=debug MALLOC_PERTURB_=165.
 """

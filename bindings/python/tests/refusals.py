@@ -1,4 +1,4 @@
-"""The words of each refusal: what was given, and what was needed. Prints 'N passed, M failed' last."""
+"""The words of each refusal: what was given, and what was needed. Prints 'N passed, N failed, N skipped' last."""
 import array
 import pickle
 

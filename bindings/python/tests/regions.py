@@ -1,14 +1,14 @@
-"""Values, sums and regions beside plain loops, and beside NumPy and OpenCV where they are. Prints 'N passed, M failed' last."""
+"""Values, sums and regions beside plain loops, and beside NumPy and OpenCV where they are. Prints 'N passed, N failed, N skipped' last."""
 import random
 
-from counting import check, end, numpy_or_none, raises
+from counting import check, end, numpy_or_none, raises, skip
 from imgref import Image, Refused, Window, bounding_box, components, equalize, flood_fill, histogram, integral
 
 try:
     import cv2
 except ImportError:
     cv2 = None
-    print("OpenCV: skipped, it isn't on this machine")
+    skip("what is beside OpenCV", "python3-opencv")
 numpy = numpy_or_none()
 some = random.Random(7)
 

@@ -1,5 +1,5 @@
-"""Buffers of two and three dimensions with every stride, and bad arguments. Prints 'N passed, M
-failed' last."""
+"""Buffers of two and three dimensions with every stride, and bad arguments. Prints 'N passed, N
+failed, N skipped' last."""
 import ctypes
 
 from counting import check, end, exported, numpy_or_none, raises

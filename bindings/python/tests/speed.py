@@ -1,5 +1,5 @@
 """The fixed cost of a call: the least time on images of one pixel. And large images beside NumPy, in
-one run. Prints 'N passed, M failed' last.
+one run. Prints 'N passed, N failed, N skipped' last.
 
     speed.py [MICROSECONDS]    the most that a call may take (2)
 """
