@@ -1,4 +1,4 @@
-# make try [SCRIPT=path]   runs the program on a script with nothing proved: half a minute
+# make try                 runs the script program and covers a face, with nothing proved: under a minute. SCRIPT=path runs that script alone
 # make run [SCRIPT=path]   proves and builds the program, and runs it on a script
 # make check [CRATE=name]  proves and tests what has changed, of one crate with all below it or of all: what to run while writing
 # make setup               installs what the tests need and this machine lacks, by apt-get (tools/needs.txt)
@@ -21,6 +21,11 @@
 #
 # SCRIPT=- takes the script from standard input. With DESTDIR=.., make install puts its files below that folder.
 
+# (an older Python can't read all tools)
+ifneq ($(shell python3 -c 'import sys; print(sys.version_info >= (3, 10))' 2>&1),True)
+$(error Python 3.10 or later is needed as `python3`, and here it is: $(shell python3 --version 2>&1))
+endif
+
 SCRIPT ?= examples/first.script
 PREFIX ?= /usr/local
 export SCRIPT BUGS CRATE SETUP
@@ -28,7 +33,7 @@ export SCRIPT BUGS CRATE SETUP
 .PHONY: setup try run check test gate times frames c python install web web-serve release docs exports bench
 
 try:
-	@python3 tools/program.py try
+	@python3 tools/program.py try $(if $(findstring file,$(origin SCRIPT)),face)
 
 run:
 	@python3 tools/program.py run

@@ -32,6 +32,7 @@ import threading
 import time
 
 from checking import COUNT, ONE_BUILD, ROOT, SKIPPED, VARIANT, crates, says
+from needs import of_tests
 from packing import sum_of
 from processes import end_on_signals, run_to_end, started, workers
 from setup import set_up
@@ -305,7 +306,7 @@ def main(words):
         sys.exit(__doc__)
     need_rattle()
     if words[0] == "test" and os.environ.get("SETUP") != "no":
-        set_up(of_gate=False)
+        set_up(of_tests())
     with alone(words[0]):
         return work(words[0], only)
 

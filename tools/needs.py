@@ -57,6 +57,11 @@ def package_of(name):
     return next((it.package for it in needs().values() if name in it.shown_by), None) or needs()[name]
 
 
-def missing(of_gate=True):
-    """The packages that this machine lacks. Those for the gate alone only where they are asked for."""
-    return [it for it in needs().values() if (of_gate or not it.of_gate) and not it.is_there()]
+def of_tests():
+    """The packages that `make test` needs: all but those that the gate alone needs."""
+    return [it.package for it in needs().values() if not it.of_gate]
+
+
+def missing(packages):
+    """Those packages that this machine lacks."""
+    return [it for it in packages if not needs()[it].is_there()]

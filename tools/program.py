@@ -2,7 +2,8 @@
 """Runs the script program, and proves and builds it first where something that it is made of has changed.
 
     program.py run            on the script that the variable SCRIPT names (`-`: standard input)
-    program.py try            on the same, with nothing proved: the toolchain checks each access while it runs
+    program.py try [face]     on the same, with nothing proved: the toolchain checks each access while it runs. With `face` it also
+                              covers the face of docs/person.png in that way, and says where the picture is
     program.py build NAME..   proves and builds these crates and those below them, and prints what was made of each
 
 Only those crates and the ones below them count: an edit of any other crate starts nothing. All that the prover says is
@@ -19,9 +20,10 @@ import tempfile
 import threading
 import time
 
-from processes import end_on_signals, started
+import face
+from processes import end_on_signals, started, workers
 from proving import CORES, Progress, all_below, changed, processors, prove_changed, weights_of
-from workspace import ROOT, crates, product
+from workspace import ROOT, crates, need_rattle, product
 
 NAME = "imgref_run"
 FOLDER = ROOT / "crates" / NAME
@@ -145,19 +147,34 @@ def try_on(given):
     return ran.returncode
 
 
+def try_both(given):
+    """Runs the program and covers a face, side by side, and returns the worse status."""
+    with workers(1) as pool:
+        covered = pool.submit(face.cover)
+        status = try_on(given)
+        try:
+            made = covered.result().relative_to(ROOT)
+        except (face.Failure, OSError) as why:
+            say(f"the face of docs/person.png isn't covered: {why}")
+            return status or 1
+    say(f"The face of docs/person.png is covered in {made}, with nothing proved too. `make frames` proves that program.")
+    return status
+
+
 def main(words):
+    need_rattle()
     if len(words) > 1 and words[0] == "build" and all(it in crates() for it in words[1:]):
         status = built(*words[1:])
         for it in words[1:] if not status else []:
             print(product(it).relative_to(ROOT))
         return status
-    if words not in (["run"], ["try"]):
+    if words not in (["run"], ["try"], ["try", "face"]):
         sys.exit(__doc__)
     if words == ["run"] and (status := built(NAME)):
         return status
     try:
         with script() as given:
-            return (run_on if words == ["run"] else try_on)(given)
+            return {"run": run_on, "try": try_on, "face": try_both}[words[-1]](given)
     except OSError as why:
         sys.exit(f"the script can't be read: {why}")
 

@@ -14,7 +14,7 @@ import shutil
 import subprocess
 import sys
 
-from needs import imports, missing, needs
+from needs import imports, missing, needs, of_tests
 from processes import end_on_signals, run_to_end, started
 
 # The columns of a line that lists packages.
@@ -77,7 +77,7 @@ def install(root, packages):
             say(f"apt knows no package {it}: it is left out")
     if not known:
         return last(lists) if lists.returncode else "nothing can be installed"
-    say(f"{len(known)} packages, {size(said)}: {' '.join(known)}")
+    say(f"{len(known)} packages, {size(said)}, which takes some minutes: {' '.join(known)}")
     words = [*root, "env", "DEBIAN_FRONTEND=noninteractive", "LC_ALL=C", *INSTALL, *PATIENCE, *known]
     with started(words, stdin=subprocess.DEVNULL, stdout=subprocess.PIPE, stderr=subprocess.STDOUT, text=True, errors="replace") as ran:
         told = ran.stdout.read()
@@ -90,11 +90,11 @@ def last(ran, said=None):
     return lines[0] if lines else f"apt-get ends with status {ran.returncode}"
 
 
-def set_up(of_gate=True):
-    """Installs what is missing, and returns what is missing after that. It says what it does."""
-    lacking = [it.package for it in missing(of_gate)]
+def set_up(packages):
+    """Installs what is missing of these packages, and returns what is missing after that. It says what it does."""
+    lacking = missing(packages)
     if not lacking:
-        say(f"nothing to do: all {sum(of_gate or not it.of_gate for it in needs().values())} packages are there")
+        say(f"nothing to do: all {len(packages)} packages are there")
         return []
     if not shutil.which("apt-get"):
         say(f"there is no apt-get here. Please install, by the names that this system has: {' '.join(lacking)}")
@@ -105,7 +105,7 @@ def set_up(of_gate=True):
         return lacking
     why = install(root, lacking)
     imports.cache_clear()
-    left = [it.package for it in missing(of_gate)]
+    left = missing(packages)
     if why:
         say(f"apt-get couldn't install them ({why}). Please type, with a network:\n    {typed(left)}")
     elif left:
@@ -131,7 +131,7 @@ def main(words):
         return 0
     if words not in ([], ["test"]):
         sys.exit(__doc__)
-    return 1 if set_up(of_gate=not words) else 0
+    return 1 if set_up(of_tests() if words else [*needs()]) else 0
 
 
 if __name__ == "__main__":
