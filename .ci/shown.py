@@ -38,10 +38,11 @@ CARGO = '[package]\nname = "shown"\nversion = "0.0.0"\nedition = "2021"\n[depend
 TOOLS = ("ffmpeg", "pngtopnm", "pnmtopng", "pnmdepth", "parallel")
 # The blocks that aren't run here as they are: a page, how they begin, and what tries them, or why nothing does.
 OTHERS = [
+    ("README.md", "make try ", "fresh_machine.py: the picture of `make try`. The gate runs `make test`"),
     ("README.md", "make python ", "proofs/bindings.py"),
     ("README.md", "rt new ", "run_filter"),
     ("README.md", "#![tactic", "run_filter"),
-    ("CONTRIBUTING.md", "apt-get ", "nothing: it changes the machine"),
+    ("CONTRIBUTING.md", "sudo apt-get ", "fresh_machine.py: it is what tools/needs.txt lists"),
     ("docs/ARCHITECTURE.md", "programs ", "nothing: it is a map"),
     ("docs/C.md", "make c ", "proofs/c_library.py"),
     ("docs/CALLERS.md", "//! Three functions", "run_filter"),
