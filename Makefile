@@ -22,8 +22,8 @@
 # SCRIPT=- takes the script from standard input. With DESTDIR=.., make install puts its files below that folder.
 
 # (an older Python can't read all tools)
-ifneq ($(shell python3 -c 'import sys; print(sys.version_info >= (3, 10))' 2>&1),True)
-$(error Python 3.10 or later is needed as `python3`, and here it is: $(shell python3 --version 2>&1))
+ifneq ($(shell { python3 -c 'import sys; print(sys.version_info >= (3, 10))'; } 2>&1 || :),True)
+$(error Python 3.10 or later is needed as `python3`, and here it is: $(shell { python3 --version; } 2>&1 || :))
 endif
 
 SCRIPT ?= examples/first.script

@@ -177,6 +177,8 @@ def cached_checks(without=()):
 
 def sum_of_files():
     """The sum of all files that git has or would take, and of the kit's version. Nothing where git doesn't list them."""
+    if not shutil.which("git"):
+        return None
     listed = run_to_end(["git", "-C", ROOT, "ls-files", "-z", "--cached", "--others", "--exclude-standard"])
     if listed.returncode:
         return None
@@ -314,12 +316,8 @@ def main(words):
 @contextlib.contextmanager
 def alone(way):
     """Keeps a second run of this script out of the checkout until the end of the block: it would write the same files."""
-    try:
-        LOGS.mkdir(exist_ok=True)
-        kept = open(LOGS / "working", "a+", encoding="utf-8")
-    except OSError as why:
-        sys.exit(f"this needs a checkout that it can write into: {why}")
-    with kept:
+    LOGS.mkdir(exist_ok=True)
+    with open(LOGS / "working", "a+", encoding="utf-8") as kept:
         try:
             fcntl.flock(kept, fcntl.LOCK_EX | fcntl.LOCK_NB)
         except OSError:

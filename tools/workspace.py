@@ -4,6 +4,7 @@ A room is a folder with one crate and those below it: copies of their sources, a
 lets one run at a time work in a crate and in all below it, so crates are proved side by side in rooms.
 """
 import contextlib
+import errno
 import fcntl
 import os
 import pathlib
@@ -27,8 +28,20 @@ def fill_streams():
     os.close(number)
 
 
+def tell(kind, why, trace):
+    """Says in one line what this machine lacks where that ends a tool: a checkout that can be written into, or a program."""
+    name = str(getattr(why, "filename", None) or "")
+    if isinstance(why, OSError) and why.errno in (errno.EROFS, errno.EACCES) and name.startswith(str(ROOT)):
+        print(f"this needs a checkout that it can write into: {why}", file=sys.stderr)
+    elif isinstance(why, FileNotFoundError) and name and "/" not in name:
+        print(f"{name} is needed, and there is no such program on PATH. `make setup` installs the tools.", file=sys.stderr)
+    else:
+        sys.__excepthook__(kind, why, trace)
+
+
 # Each tool of `make` imports this file before it opens another.
 fill_streams()
+sys.excepthook = tell
 
 
 # The kits of Rattle by which everything here is proved, and their logic: another one may refuse a proof.
