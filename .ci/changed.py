@@ -35,7 +35,8 @@ RUST_USE = re.compile(r"(?m)^ *(?:pub )?use ([\w:]+?)::(?:(\w+)|\{([^}]*)\});")
 ITEM = re.compile(r"(?ms)^(?:pub(?:\(\w+\))? )?(?:struct|enum|trait|type|const|union) (\w+).*?(?:^\}|;$)")
 # Proof files of one function, which nothing else cites.
 OF_ONE_FUNCTION = ("Answers.antt", "Invariants.antt", "Proof.antt")
-COMMENT = re.compile(r"(?m)^ *//.*$|^--.*$")
+# (a line of an edit that names a stale answer says nothing of the bug)
+COMMENT = re.compile(r"(?m)^ *//.*$|^--.*$|^stale: .*\n?")
 BODY = re.compile(r"(?m)^ *\{$|\{$")
 IS_PUBLIC = re.compile(r"(?m)^ *pub (?:const )?(?:unsafe )?(?:extern \"C\" )?fn ")
 
@@ -232,9 +233,7 @@ class Changes:
 
     def __init__(self, commit):
         old = old_files(commit)
-        self.unknown = old is None
-        if not self.unknown:
-            self.tree = Tree(old)
+        self.unknown, self.tree = old is None, None if old is None else Tree(old)
 
     def affects(self, bug):
         """Whether a bug, its function, what proves it, or what its function cites or calls differs."""
@@ -260,22 +259,22 @@ class Changes:
 
 
 def last_landed():
-    """The commit that had landed last, and the kit that proved it. Exits where the commit is no ancestor of this one."""
-    commit, kit = LANDED.read_text(encoding="utf-8").splitlines()[:2]
+    """The commit that had landed last, and whether the kit here has the logic that proved it. Exits where that is no ancestor of this
+    commit."""
+    commit, logic = LANDED.read_text(encoding="utf-8").split()
     if git("rev-parse", "--verify", "-q", "HEAD") and git("merge-base", "--is-ancestor", commit, "HEAD") is None:
-        raise SystemExit(f"{LANDED.relative_to(ROOT)} names {commit}, which this commit doesn't follow: write the last one there that had landed when the work began")
-    return commit, kit
+        raise SystemExit(f"{LANDED.relative_to(ROOT)} names {commit}, which this commit doesn't follow: write there the last one that had landed when the work began")
+    return commit, run_to_end(["rt", "version"]).stdout.split()[-1:] == [logic]
 
 
 def affected(bugs, commit):
     """Those of the bugs that differ from a commit (without one from the last that landed) in something that they show."""
-    landed, kit = last_landed()
-    commit, now = commit or landed, run_to_end(["rt", "version"]).stdout.strip()
-    changes = Changes(commit)
-    if changes.unknown or now != kit:
-        print(f"all planted bugs: {f'the kit is {now}, and {commit} was proved by {kit}' if not changes.unknown else f'the history does not reach {commit}'}", flush=True)
+    landed, is_same_kit = last_landed()
+    changes = Changes(commit or landed)
+    if changes.unknown or not is_same_kit:
+        print(f"all planted bugs: {'the kit is another one' if changes.tree else 'the history lacks the commit'}, beside {commit or landed}", flush=True)
         return bugs
-    print(f"only the planted bugs that a difference from {commit} affects", flush=True)
+    print(f"only the planted bugs that a difference from {commit or landed} affects", flush=True)
     return {name: kept for name, found in bugs.items() if (kept := [it for it in found if changes.affects(it)])}
 
 
