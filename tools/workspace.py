@@ -170,6 +170,15 @@ def held(folder):
 
 def keep(made, name):
     """Moves what was made and cached in a room to the crate itself."""
+    keep_all(made, name)
+    with held(ROOT / "crates" / name):
+        # (rt leaves a stamp or a program whose text has not changed as it was)
+        if product(name).is_file():
+            product(name).touch()
+
+
+def keep_all(made, name):
+    """Moves all that is in a room's folder out/ to the crate itself."""
     target = ROOT / "crates" / name / "out"
     with held(target.parent):
         target.mkdir(exist_ok=True)
@@ -178,6 +187,11 @@ def keep(made, name):
             if there.is_dir():
                 shutil.rmtree(there, ignore_errors=True)
             shutil.move(it, there)
-        # (rt leaves a stamp or a program whose text has not changed as it was)
-        if product(name).is_file():
-            product(name).touch()
+
+
+def keep_program(program, name, ending):
+    """Moves a program that was made in a room to the crate's folder out/, under the crate's name and an ending."""
+    target = ROOT / "crates" / name / "out"
+    with held(target.parent):
+        shutil.move(program, target / f"{name}{ending}")
+        (target / f"{name}{ending}").touch()
