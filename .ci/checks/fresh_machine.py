@@ -176,7 +176,7 @@ def check_checkout(cases, top):
         status, _, lines = said([sys.executable, ".ci/gate.py", "check"], top, path)
         cases.count("without git the checks go on", "Traceback" not in "".join(lines), "\n".join(lines))
         status, wrote, lines = said([sys.executable, ".ci/checks/figures.py"], top, path)
-        cases.count("without git the ages of figures are skipped", "skipped, no history" in wrote and "Traceback" not in "".join(lines), wrote + "\n".join(lines))
+        cases.count("without git the ages of figures are skipped", "skipped, no git" in wrote and "Traceback" not in "".join(lines), wrote + "\n".join(lines))
         with open(top / "out/working", "r+", encoding="utf-8") as kept:
             fcntl.flock(kept, fcntl.LOCK_EX)
             for it in ("check", "test"):
