@@ -22,6 +22,7 @@ import zipfile
 
 from checking import COUNT, ROOT, built
 from library import run
+from needs import needs
 from workspace import is_proved, room
 
 import c_library
@@ -131,7 +132,8 @@ def run_python(cases, pages, folder):
         needs_numpy = "numpy" in "".join(it for it in blocks(page) if it.startswith(">>> "))
         python = numpy_python(needs_numpy)
         if not python:
-            cases.skip(f"{page.relative_to(ROOT)}: its examples in Python", "python3-dev", *["python3-numpy"] * needs_numpy)
+            lacking = ["python3-dev", *["python3-numpy"] * needs_numpy]
+            cases.skip(f"{page.relative_to(ROOT)}: its examples in Python", *([it for it in lacking if not needs()[it].is_there()] or lacking))
             continue
         if python not in packages:
             made = folder / f"package{len(packages)}"

@@ -107,7 +107,7 @@ def check_view(cases, prefix, room):
         for standard in ("-std=c++17", "-std=c++20", "-std=c++23"):
             label = f"view.cpp, {' '.join(compiler)} {standard}"
             if run([*compiler, standard, "-fsyntax-only", "-x", "c++", "/dev/null"])[0]:
-                cases.leave(label, f"C++{standard[-2:]}")
+                cases.leave(label, "C++23") if standard.endswith("23") else cases.skip(label, package(compiler))
                 continue
             words = [*standard.split(), "-O1", "-g", *WARNINGS, "-fsanitize=address,undefined", "-fno-sanitize-recover=all", f"-I{prefix / 'include'}"]
             status, _, said = run([*compiler, *words, ROOT / ".ci/c/view.cpp", "-o", room / "view", prefix / "lib/libimgref.a"])
@@ -116,7 +116,9 @@ def check_view(cases, prefix, room):
                 status, _, said = run([room / "view"])
                 counted(cases, f"calls of {label}", said, status)
     compiler = os.environ.get("CXX", "c++").split()
-    if shutil.which(compiler[0]):
+    if not shutil.which(compiler[0]):
+        cases.skip("the example in C++, and what compiles", package(compiler), number=6 + 2 * len(COMPILES))
+    else:
         check_hide(cases, compiler, prefix, room)
         check_reading(cases, compiler, prefix, room)
 
@@ -168,7 +170,7 @@ int main() {
         words = [*compiler, f"-std=c++{standard}", f"-I{prefix / 'include'}", "-fsyntax-only", file]
         file.write_text(f"#if {standard} > 17 && !defined(__cpp_consteval)\n#error\n#endif\n")
         if run(words)[0]:
-            cases.leave("what compiles", f"C++{standard}")
+            cases.skip(f"what compiles by C++{standard}", package(compiler), number=len(COMPILES))
             continue
         file.write_text(f"{head}return number; }}\n")
         status, _, said = run(words)
