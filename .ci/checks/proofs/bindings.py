@@ -72,9 +72,11 @@ def check_python(cases, room):
 
 
 def with_arrays():
-    """The Python of this check, or that of the system where that one alone has NumPy, OpenCV or PIL."""
+    """The Python of this check, or that of the system where that one has more of NumPy, OpenCV and PIL
+    and takes the same wheel."""
+    is_older = run(["/usr/bin/python3", "-c", f"import sys; sys.exit(sys.version_info < {sys.version_info[:2]})"])[0] if os.path.exists("/usr/bin/python3") else 1
     has = lambda python: sum(imports(python, it) for it in ("numpy", "cv2", "PIL"))
-    return max((sys.executable, "/usr/bin/python3"), key=has)
+    return max([sys.executable] if is_older else [sys.executable, "/usr/bin/python3"], key=has)
 
 
 def pythons():
