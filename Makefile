@@ -5,7 +5,7 @@
 # make test [SETUP=no]     runs every test, proves and builds the product, and tries all that was built. It first does what `make setup` does
 #                          for it, where it may
 # make gate [BUGS=..]      everything from nothing: also the proofs of the tests, both builds, and the planted bugs. BUGS=changed: those
-#                          that a change affects; BUGS=landing: those since the last release, and a tenth of the others
+#                          that a change affects. BUGS=landing goes on over what `make test` cached, as .ci/run does
 # make times [TIMES=..]    seconds of proof a function; TIMES: options of tools/times.py, as the names of crates, or --waits
 #
 # make frames              proves and builds both programs: crates/imgref_frames/out/imgref_frames is for video and pictures

@@ -229,11 +229,10 @@ class Tree:
 
 
 class Changes:
-    """What differs from a commit. `unknown` says that the history doesn't reach it."""
+    """What differs from the texts of an old tree, by their paths."""
 
-    def __init__(self, commit):
-        old = old_files(commit)
-        self.unknown, self.tree = old is None, None if old is None else Tree(old)
+    def __init__(self, old):
+        self.tree = Tree(old)
 
     def affects(self, bug):
         """Whether a bug, its function, what proves it, or what its function cites or calls differs."""
@@ -270,10 +269,11 @@ def last_landed():
 def affected(bugs, commit):
     """Those of the bugs that differ from a commit (without one from the last that landed) in something that they show."""
     landed, is_same_kit = last_landed()
-    changes = Changes(commit or landed)
-    if changes.unknown or not is_same_kit:
-        print(f"all planted bugs: {'the kit is another one' if changes.tree else 'the history lacks the commit'}, beside {commit or landed}", flush=True)
+    old = old_files(commit or landed)
+    if old is None or not is_same_kit:
+        print(f"all planted bugs: {'the kit is another one' if old else 'the history lacks the commit'}, beside {commit or landed}", flush=True)
         return bugs
+    changes = Changes(old)
     print(f"only the planted bugs that a difference from {commit or landed} affects", flush=True)
     return {name: kept for name, found in bugs.items() if (kept := [it for it in found if changes.affects(it)])}
 

@@ -16,8 +16,9 @@ import subprocess
 import sys
 import tempfile
 
-from changed import git, last_landed, old_files
 from checking import ROOT, Cases, built, crates, says
+
+from changed import git, last_landed, old_files
 from processes import end_on_signals
 from proving import After, Progress, all_below, prove_changed, run, weight, weights_of
 from workspace import PARTS, entries, is_program, keep_program, own_sources, product, room, with_those_below
