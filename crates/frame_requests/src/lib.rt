@@ -11,7 +11,7 @@ mod words;
 
 pub use asked::edits_asked;
 pub use boxes::with_boxes;
-pub use late::{Early, covers_late};
+pub use late::{Hiding, late_pairs};
 pub use options::{Misread, Options, read_options};
 pub use seen::{Seen, Shape, Stretch, Uncovered};
 pub use words::{Refusal, edits_of_lines, edits_of_words, has_blur, words_of};

@@ -17,8 +17,8 @@ pub use frame_edits::{Edit, Framing, Paint};
 pub use frame_heads::{Format, Picture, Rate};
 pub use frame_lists::Range;
 use frame_messages::{
-    Noted, Texts, say_bare, say_boxes, say_late, say_no_head, say_no_words, say_odd_boxes,
-    say_other_count, say_reason, write_report,
+    Noted, Texts, say_bare, say_boxes, say_no_head, say_no_words, say_odd_boxes, say_other_count,
+    say_reason, write_report,
 };
 pub use frame_messages::{RunFault, is_wanted};
 use frame_requests::{Options, Refusal, edits_asked, has_blur, read_options, words_of};
@@ -464,8 +464,17 @@ fn carry(
     edits: &Edits,
     texts: Texts<'_>,
 ) -> ExitCode {
-    if say_late(rt, &edits.steps, options.strict) && options.strict {
-        return ExitCode::from(ORDER);
+    let call = Call {
+        rt,
+        options,
+        edits,
+        texts,
+        words,
+    };
+    match call.noted().say_late() {
+        Ok(true) if options.strict => return ExitCode::from(ORDER),
+        Ok(_) => {}
+        Err(_) => return end(rt, RunFault::Memory(0)),
     }
     if let Some(change) = options.with {
         say_boxes(rt, change);
@@ -476,13 +485,6 @@ fn carry(
     if has_blur(&edits.steps) {
         let _ = eprintln!(rt; "note: a blur hides nothing: cover what has to stay secret first");
     }
-    let call = Call {
-        rt,
-        options,
-        edits,
-        texts,
-        words,
-    };
     ExitCode::from(call.run())
 }
 
