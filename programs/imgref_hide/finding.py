@@ -6,20 +6,21 @@
 """
 import argparse
 import collections
-import concurrent.futures
+import concurrent.futures.process
 import os
 import pathlib
 import signal
 import sys
 
 sys.path.insert(0, str(pathlib.Path(__file__).resolve().parent.parent.parent / "examples"))
+sys.path.insert(0, str(pathlib.Path(__file__).resolve().parent.parent))
 sys.dont_write_bytecode = True
 import detecting
 
+from imgref_hide import faces
+
 # What is found in this process: made once in each worker.
 FINDERS = []
-# The least score of OpenCV's FaceDetectorYN.
-MODEL_SCORE = 0.6
 
 
 def parsed():
@@ -30,28 +31,9 @@ def parsed():
     parser.add_argument("--every", type=int, default=1)
     parser.add_argument("--cores", type=int, default=1)
     parser.add_argument("--size", default="")
+    parser.add_argument("--smallest", type=int, default=20)
     parser.add_argument("--check", action="store_true")
     return parser.parse_args()
-
-
-def by_model(cv2, numpy, file, least):
-    """The faces that OpenCV's FaceDetectorYN finds by a model, in colours."""
-    if not hasattr(cv2, "FaceDetectorYN"):
-        sys.exit(f"OpenCV {cv2.__version__} has no FaceDetectorYN: --model needs 4.5.4 or later")
-    try:
-        detector = cv2.FaceDetectorYN.create(file, "", (320, 320), MODEL_SCORE if least is None else least)
-    except cv2.error as why:
-        sys.exit(f"{file} is no model that OpenCV reads: {str(why).strip().splitlines()[-1]}")
-
-    def find(planes):
-        brightness, *chroma = planes
-        high, wide = brightness.shape
-        picture = cv2.cvtColor(numpy.concatenate([it.reshape(-1) for it in (brightness, *chroma)]).reshape(high * 3 // 2, wide), cv2.COLOR_YUV2BGR_I420)
-        detector.setInputSize((wide, high))
-        found = detector.detect(picture)[1]
-        return [([float(x) for x in it[:4]], float(it[-1])) for it in (found if found is not None else [])]
-
-    return find
 
 
 def made(options):
@@ -62,12 +44,9 @@ def made(options):
     cv2.setNumThreads(1)
     found = []
     if options.model:
-        found.append(by_model(cv2, numpy, options.model, options.min_score))
+        found.append(faces.by_model(cv2, numpy, options.model, options.min_score))
     elif options.find in ("faces", "both"):
-        import detect_faces
-
-        faces = detect_faces.finder()
-        found.append(lambda planes: faces(planes[0]))
+        found.append(faces.by_cascades(cv2, options.smallest))
     if options.find in ("people", "both"):
         import detect_people
 

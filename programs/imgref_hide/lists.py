@@ -90,10 +90,15 @@ def reaches(line, size, margin):
     return left - margin < size[0] and top - margin < size[1] and left + width + margin > 0 and top + height + margin > 0
 
 
-def check_frames(work, options, frames):
+def say_count(work, frames):
+    """Writes into a list how many frames it is of, where it doesn't say so."""
+    path = work / "boxes.txt"
+    if boxes_of(path)[0] is None:
+        path.write_text(f"# frames {frames}\n" + path.read_text())
+
+
+def check_frames(work, frames):
     """Refuses a frame that the video doesn't have, in the list or in an edit by hand, before anything is covered."""
-    if frames is None:
-        return
     last = max((int(it[0]) for it in boxes_of(work / "boxes.txt")[1] if it[0].isdigit()), default=0)
     if last > frames:
         raise Failure(f"the list names frame {last}, and the video has {frames}")

@@ -13,7 +13,7 @@ from . import encoding, lists, places, probing, record, running
 from .running import Counter, Failure, Step, pipe
 
 # The detectors' picture: in it the least face that is asked for has so many pixels.
-SMALLEST = 24
+SMALLEST = 32
 # So many frames are tried before all others, and so many seconds of the sound.
 TRIED, TRIED_SOUND = 2, "0.2"
 # Besides what the output takes, so many bytes must be free on the disk.
@@ -24,6 +24,8 @@ class Names:
     """The files that are written: the output, and beside it the list, the report and the sheet."""
 
     def __init__(self, output):
+        if not output.name:
+            raise Failure(f"{output} is a folder: name a file in it")
         self.output = output
         self.boxes, self.report, self.sheet = (output.with_name(f"{output.stem}.{it}") for it in ("boxes.txt", "covers.csv", "sheet.png"))
 
@@ -57,14 +59,10 @@ def check_paths(options, names):
         raise Failure(f"the folder {folder} isn't there")
     if not os.access(folder, os.W_OK | os.X_OK):
         raise Failure(f"in the folder {folder} nothing can be written: permission denied")
-    for it in (names.output, *names.others(), *([options.log] if options.log else [])):
+    for it in (names.output, *names.others()):
         for given in (options.input, options.edits, options.model, options.list):
             if given is not None and is_same(it, given):
                 raise Failure(f"{it} would be written, and is read too: name another output")
-    if options.log and is_same(options.log, names.output):
-        raise Failure(f"{options.log} can't be both the record and the output")
-    if options.log and not options.log.parent.is_dir():
-        raise Failure(f"the folder {options.log.parent} isn't there")
     if options.again and not names.boxes.is_file():
         raise Failure(f"{names.boxes} isn't there: --again needs the list of an earlier run")
     encoding.form_of(names.output)
@@ -175,35 +173,45 @@ class Run:
             pipe(steps, self.work, "found.txt", counter, self.progress)
         else:
             scale = min(1.0, SMALLEST / options.least)
+            least = ["--smallest", str(round(options.least * scale * 0.85))]
             wide, high = (max(2, round(it * scale / 2) * 2) for it in (width, height))
             smaller = [f"scale={wide}:{high}:flags=area"] if (wide, high) != (width, height) else []
             raw = self.plan.raw(*counter.words(), filters=smaller, pixels="yuv420p" if options.model else "gray")
-            steps = [Step("ffmpeg", raw), Step("the detector", [self.python, *self.finder(), "--size", f"{width}x{height}"])]
+            steps = [Step("ffmpeg", raw), Step("the detector", [self.python, *self.finder(), *least, "--size", f"{width}x{height}"])]
             pipe(steps, self.work, "boxes.txt", counter, self.progress)
         self.frames = counter.end()
         self.progress.end(self.frames)
         if options.detector:
             lists.converted(os.path.abspath(options.list) if options.list else self.work / "found.txt", self.work, options, (width, height))
+            lists.say_count(self.work, self.frames)
+
+    def count(self):
+        """Counts the frames of the raw video, where no detector has read it."""
+        counter = Counter()
+        self.progress.begin("counting", self.plan.video.frames(self.plan.rate))
+        pipe([Step("ffmpeg", self.plan.raw(*counter.words()))], self.work, None, counter, self.progress)
+        return counter.end()
 
     def cover(self):
         """Covers what the list has, and encodes it."""
-        self.boxes, words, count = *lists.ready(self.work, self.options, (self.plan.width, self.plan.height), self.say), lists.boxes_of(self.work / "boxes.txt")[0]
+        self.boxes, words = lists.ready(self.work, self.options, (self.plan.width, self.plan.height), self.say)
         if not words and not self.edits:
             raise Failure(f"nothing was found in {self.options.input}, so nothing would be covered")
-        if self.frames is not None and count not in (None, self.frames):
-            raise Failure(f"the list is of {count} frames, and the video has {self.frames}")
-        expected = self.frames if self.frames is not None else count
-        lists.check_frames(self.work, self.options, expected)
-        counting = ["--frames", str(expected)] if expected is not None else []
+        listed = lists.boxes_of(self.work / "boxes.txt")[0]
+        if self.frames is None:
+            self.frames = listed if listed is not None and self.options.again else self.count()
+        if listed not in (None, self.frames):
+            raise Failure(f"the list is of {listed} frames, and the video has {self.frames}")
+        lists.check_frames(self.work, self.frames)
+        lists.say_count(self.work, self.frames)
         counter = Counter()
-        self.progress.begin("covering", expected or self.plan.video.frames(self.plan.rate))
-        covering = [self.program, "--strict", *counting, *words, *self.edits, "--report", "covers.csv"]
+        self.progress.begin("covering", self.frames)
+        covering = [self.program, "--strict", "--frames", str(self.frames), *words, *self.edits, "--report", "covers.csv"]
         steps = [Step("ffmpeg", self.plan.raw()), Step("imgref_frames", covering), Step("ffmpeg, which encodes,", self.plan.written("video", *counter.words()))]
         pipe(steps, self.work, None, counter, self.progress)
         frames = counter.end()
-        if expected not in (None, frames):
-            raise Failure(f"{frames} frames were written, and the list is of {expected}")
-        self.frames = frames
+        if self.frames != frames:
+            raise Failure(f"{frames} frames were written, and the list is of {self.frames}")
         self.progress.end(frames)
 
     def check_output(self):
@@ -276,6 +284,7 @@ class Run:
 
 def hide(options, kept, progress):
     """Hides what is found in one video, and returns the last line. Where that fails nothing is left, and the record says why."""
+    check_log(options)
     try:
         return Run(options, kept, progress).go()
     except (Failure, running.Interrupted) as why:
@@ -284,3 +293,24 @@ def hide(options, kept, progress):
     finally:
         if options.log:
             kept.write(options.log)
+
+
+def check_log(options):
+    """Refuses a record that can't be written, or that is another file of the run: a record is added to what is there."""
+    if not options.log:
+        return
+    names = Names(options.output)
+    for it in (options.input, options.edits, options.model, options.list, names.output, *names.others()):
+        if it is not None and is_same(options.log, it):
+            raise Failure(f"{options.log} can't be the record, since the run reads or writes it")
+    if not options.log.parent.is_dir():
+        raise Failure(f"the folder {options.log.parent} isn't there")
+    if options.log.exists() and not (options.log.is_file() and is_record(options.log)):
+        raise Failure(f"{options.log} is there, and no record: name another file")
+
+
+def is_record(path):
+    """Whether a file has records alone, or nothing."""
+    with contextlib.suppress(OSError), open(path, "rb") as lines:
+        return lines.read(1) in (b"", b"{")
+    return False

@@ -106,7 +106,7 @@ def by_words(cases, place):
         (["in.mp4", "none/out.mp4"], 1, "isn't there"),
         (["none.mp4", "out.mp4"], 1, "none.mp4 isn't there"),
         (["in.mp4", "in.mp4", "--force"], 1, "is read too"),
-        (["in.mp4", "out.mp4", "--log", "in.mp4"], 1, "is read too"),
+        (["in.mp4", "out.mp4", "--log", "in.mp4"], 1, "can't be the record"),
         (["in.mp4", "out.mp4", "--log", "none/log"], 1, "isn't there"),
         (["in.mp4", "out.mp4", "--jobs", "2"], 2, "--jobs is for a folder"),
     ):
@@ -144,19 +144,19 @@ def by_missing(cases, place):
         cases.count(f"{name} is refused", done.returncode == 1 and why in done.stderr and not (folder / "out.mp4").exists(), done.stderr)
     locked = folder / "locked"
     locked.mkdir()
-    done = place.run(folder, "in.mp4", "/proc/out.mp4")
+    done = place.run(folder, "in.mp4", "/proc/out.mp4", "--ignore-room")
     cases.count("a folder in which nothing can be written is refused", done.returncode == 1 and ("can be written" in done.stderr), done.stderr)
 
 
 def by_sizes(cases, place):
     """Odd sizes, one pixel of width, webm, and sound that a container can't hold."""
     folder = place.sub("sizes")
-    ffmpeg(folder, "-i in.mp4 -vf crop=159:95:0:0 -pix_fmt yuv444p -c:v ffv1 -c:a pcm_s16le odd.mkv")
+    ffmpeg(folder, "-i in.mp4 -vf format=yuv444p,crop=159:95:0:0 -c:v ffv1 -c:a pcm_s16le odd.mkv")
     done = place.run(folder, "odd.mkv", "odd.mp4")
     frames, wide, high = frames_of(folder, "odd.mp4") if done.returncode == 0 else ([], 0, 0)
     cases.count("an odd size becomes even for H.264, with PCM as AAC, and both are said", (len(frames), wide, high) == (FRAMES, 158, 94) and not any(max(it) > 170 for it in frames) and "even sizes" in done.stderr and "encoded again as aac" in done.stderr, done.stderr)
-    done = place.run(folder, "odd.mkv", "odd.webm", "--cores", "2")
-    frames, wide, high = frames_of(folder, "odd.webm") if done.returncode == 0 else ([], 0, 0)
+    done = place.run(folder, "odd.mkv", "web.webm", "--cores", "2")
+    frames, wide, high = frames_of(folder, "web.webm") if done.returncode == 0 else ([], 0, 0)
     cases.count("webm keeps an odd size", (len(frames), wide, high) == (FRAMES, 159, 95) and not any(max(it) > 170 for it in frames) and "opus" in done.stderr, done.stderr)
     done = place.run(folder, "odd.mkv", "silent.mp4", "--no-sound")
     said = subprocess.run(["ffprobe", "-v", "error", "-show_entries", "stream=codec_type", "-of", "csv=p=0", "silent.mp4"], cwd=folder, capture_output=True, text=True).stdout.split()
@@ -306,14 +306,15 @@ def by_room(cases, place):
     folder = place.sub("room")
     small = folder / "small"
     small.mkdir()
-    if subprocess.run(["mount", "-t", "tmpfs", "-o", "size=48k", "tmpfs", small], capture_output=True).returncode:
+    if subprocess.run(["mount", "-t", "tmpfs", "-o", "size=200k", "tmpfs", small], capture_output=True).returncode:
         cases.skip("a full disk", "mount")
         return
     try:
         done = place.run(folder, "in.mp4", "small/out.mp4")
         cases.count("too little room is told at once", done.returncode == 1 and "MB free" in done.stderr and "detecting" not in done.stderr, done.stderr)
-        done = place.run(folder, "in.mp4", "small/out.mp4", "--ignore-room", "--crf", "0")
-        cases.count("a disk that gets full leaves nothing", done.returncode == 1 and not left(small) and ("space" in done.stderr), f"{done.stderr} {left(small)}")
+        ffmpeg(folder, "-i in.mp4 -vf noise=alls=60:allf=t -c:v libx264 -crf 10 -pix_fmt yuv420p noise.mp4")
+        done = place.run(folder, "noise.mp4", "small/out.mp4", "--ignore-room", "--crf", "0", "--detector", "cat > /dev/null; echo 1,1,1,1,9,9,1,-1,-1,-1")
+        cases.count("a disk that gets full leaves nothing", done.returncode == 1 and not left(small) and "space" in done.stderr and "detecting" in done.stderr, f"{done.stderr} {left(small)}")
     finally:
         subprocess.run(["umount", small])
 
@@ -333,7 +334,7 @@ def by_real(cases, place):
         cases.skip("OpenCV's detectors", "python3-opencv", number=3)
         return
     shutil.copy(ROOT / "docs/person.png", folder)
-    ffmpeg(folder, "-loop 1 -framerate 12 -i person.png -vf pad=320:180:x=4*n:y=0:color=gray:eval=frame,trim=end_frame=9 -pix_fmt yuv420p -c:v libx264 -crf 12 face.mp4") if False else ffmpeg(folder, "-loop 1 -framerate 12 -i person.png -filter_complex color=c=gray:s=320x180:r=12[a];[a][0]overlay=x=4*n:y=0,trim=end_frame=9 -pix_fmt yuv420p -c:v libx264 -crf 12 face.mp4")
+    ffmpeg(folder, "-loop 1 -framerate 12 -i person.png -filter_complex color=c=gray:s=320x180:r=12[a];[a][0]overlay=x=4*n:y=0,trim=end_frame=9 -pix_fmt yuv420p -c:v libx264 -crf 12 face.mp4")
     done = place.run(folder, "face.mp4", "out.mp4", "--cores", "2", fake=False)
     frames, wide, _ = frames_of(folder, "out.mp4") if done.returncode == 0 else ([], 0, 0)
     # The eyes of the picture, which moves by four pixels a frame.
