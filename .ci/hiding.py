@@ -129,10 +129,10 @@ def black(frames):
 
 
 def is_hidden(folder, name, frames=FRAMES, square=SQUARE):
-    """Whether so many frames are there, with nothing bright, and with as many black pixels as the square has. (A first frame may be
+    """Whether so many frames are there, with nothing bright, and with as many black pixels as the square has. (A frame or two may be
     doubled, where the sound begins earlier.)"""
     found, _, _ = frames_of(folder, name)
-    return len(found) in (frames, frames + 1) and not any(max(it) > SEEN for it in found) and black(found) >= square * square
+    return frames <= len(found) <= frames + 2 and not any(max(it) > SEEN for it in found) and black(found) >= square * square
 
 
 def left(folder, *known):

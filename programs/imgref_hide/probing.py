@@ -127,15 +127,19 @@ class CutOff(Failure):
 
 def whole(path, stream, form, streams):
     """How many packets the video has. One whose container says more is cut off."""
-    entries = "packet=stream_index,pts_time,duration_time"
-    status, out, said = asked(["ffprobe", "-v", "error", "-show_entries", entries, "-of", "csv=p=0", named(path)])
+    entries, is_mov = "packet=stream_index,pts_time,duration_time", "mov" in form.get("format_name", "")
+    # (an edit list may leave out frames, which are there)
+    all_of_it = ["-ignore_editlist", "1"] if is_mov else []
+    status, out, said = asked(["ffprobe", "-v", "error", *all_of_it, "-show_entries", entries, "-of", "csv=p=0", named(path)])
     count, last = 0, 0.0
     for line in out.splitlines():
         index, time, length, *_ = (*line.split(b","), b"", b"", b"")
         count += index == str(stream["index"]).encode()
         last = max(last, (number(time) or 0.0) + (number(length) or 0.0))
     due = int(stream["nb_frames"]) if str(stream.get("nb_frames", "")).isdigit() else 0
-    if due > count:
+    # (other containers than MP4 count frames that have no data)
+    spared = 0 if is_mov else SLACK * float(fraction(stream.get("avg_frame_rate")) or 25)
+    if due > count + spared:
         raise CutOff(f"{path} is cut off: its container names {due} frames of video, and {count} are there")
     names_end = "matroska" in form.get("format_name", "")
     end = (number(form.get("duration")) or 0.0) if names_end else 0.0

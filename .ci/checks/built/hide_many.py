@@ -46,7 +46,7 @@ def by_folder(cases, place):
     outputs = {"1.mp4": "1.mp4", "a b/2.mov": "a b/2.mov", "3.avi": "3.avi.mp4", "it's.mkv": "it's.mkv"}
     well = [rows.get(it, [""])[-1] == "done" and is_hidden(folder / "out", out) for it, out in outputs.items()]
     cases.count("each video of a tree is covered", all(well), f"{well} {rows} {done.stderr}")
-    cases.count("the table has frames, boxes, frames without and the status", int(rows["1.mp4"][0]) == FRAMES and rows["1.mp4"][1:] == [str(FRAMES), "0", "done"], str(rows.get("1.mp4")))
+    cases.count("the table has frames, boxes, frames without and the status", int(rows["1.mp4"][0]) in (FRAMES, FRAMES + 1) and rows["1.mp4"][1:] == [rows["1.mp4"][0], "0", "done"], str(rows.get("1.mp4")))
     others = (rows.get("broken.mp4", [""])[-1], rows.get("empty.mp4", [""])[-1], rows.get("notes.txt", [""])[-1])
     cases.count("what failed, what has nothing and what is no video are there too", others[0].startswith("failed: ") and "can" in others[0] and others[1] == "nothing found" and others[2].startswith("left out"), str(others))
     cases.count("the status is 1, and the last line counts them", done.returncode == 1 and "4 of 6 videos are covered, in 1 nothing was found, 1 failed" in done.stderr, done.stderr)
@@ -111,12 +111,13 @@ class Host:
         self.process = subprocess.Popen([shutil.which("sshd") or "/usr/sbin/sshd", "-D", "-f", self.folder / "config"], start_new_session=True, stdin=subprocess.DEVNULL, stderr=subprocess.DEVNULL)
 
     def login(self, folder):
-        return f"1/ssh -p {self.port} -i {folder}/key -o StrictHostKeyChecking=no -o UserKnownHostsFile=/dev/null -o LogLevel=ERROR 127.0.0.1"
+        return f"1/ssh -p {self.port} -i {folder}/key -o StrictHostKeyChecking=no -o UserKnownHostsFile=/dev/null -o LogLevel=ERROR -o ControlMaster=auto -o ControlPath={self.folder}/%p -o ControlPersist=60 127.0.0.1"
 
     def kill(self):
         """The machine is gone: the server, and all that works in its folder."""
         self.process.kill()
         self.process.wait()
+        subprocess.run(["ssh", "-O", "exit", "-o", f"ControlPath={self.folder}/{self.port}", "127.0.0.1"], capture_output=True, stdin=subprocess.DEVNULL)
         for it in pathlib.Path("/proc").glob("[0-9]*"):
             with contextlib.suppress(OSError, ValueError):
                 if os.readlink(it / "cwd").startswith(str(self.home)) or f"{self.folder}/" in (it / "environ").read_bytes().decode(errors="replace"):
@@ -139,7 +140,7 @@ def by_hosts(cases, place):
     cases.count("the page has a recipe for several machines", recipe)
     folder = place.folder / "hosts"
     (folder / "in").mkdir(parents=True)
-    names = [f"{it} of.mp4" for it in range(9)]
+    names = [f"{it} of.mp4" for it in range(7)]
     for at, name in enumerate(names):
         ffmpeg(folder, f"-i ../in.mp4 -c copy -metadata title={at} x.mp4")
         os.replace(folder / "x.mp4", folder / "in" / name)
@@ -148,17 +149,19 @@ def by_hosts(cases, place):
     try:
         (folder / "hosts.txt").write_text("".join(f"{it.login(folder)}\n" for it in hosts))
         # (slow enough that the host is killed in the middle of a video)
-        words = f"imgref-hide --cores 1 --sheet 0 --detector 'sleep 1; {place.detector}'"
-        script = recipe[1].replace("imgref-hide --cores 4", words) if recipe else "false"
-        quoted = script.replace(words, f"imgref-hide --cores 1 --sheet 0 --detector \"sleep 1; {place.detector}\"") if "'imgref" in script else script
+        words = f'imgref-hide --cores 1 --sheet 0 --detector "sleep 1; {place.detector}"'
+        quoted = recipe[1].replace("imgref-hide --cores 4", words) if recipe else "false"
         env = place.env | {"HOME": str(folder), "PARALLEL_HOME": str(folder / "parallel")}
-        process = subprocess.Popen(["bash", "-c", quoted], cwd=folder, env=env, stdin=subprocess.DEVNULL, stdout=subprocess.PIPE, stderr=subprocess.STDOUT, text=True, start_new_session=True)
-        deadline = time.monotonic() + 60
+        # (into a file: a connection that is kept open keeps a pipe)
+        with open(folder / "said", "wb") as said:
+            process = subprocess.Popen(["bash", "-c", quoted], cwd=folder, env=env, stdin=subprocess.DEVNULL, stdout=said, stderr=said, start_new_session=True)
+        deadline = time.monotonic() + 90
         while time.monotonic() < deadline and process.poll() is None and not hosts[1].is_working():
             time.sleep(0.05)
-        cases.count("a host is killed while it works", process.poll() is None and hosts[1].is_working(), process.communicate()[0] if process.poll() is not None else "")
+        cases.count("a host is killed while it works", process.poll() is None and hosts[1].is_working(), (folder / "said").read_text())
         hosts[1].kill()
-        said = process.communicate(timeout=180)[0]
+        process.wait(240)
+        said = (folder / "said").read_text()
         place.run(folder, "in", "one", "--cores", "1", "--jobs", "3", "--sheet", "0", "--detector", place.detector, fake=False)
         same = [(folder / "out" / it).exists() and (folder / "out" / it).read_bytes() == (folder / "one" / it).read_bytes() for it in names]
         cases.count("all outputs are there, byte for byte those of one machine", process.returncode == 0 and all(same), f"{process.returncode} {same} {said[-3000:]}")
@@ -166,8 +169,9 @@ def by_hosts(cases, place):
         cases.count("and none is half, or there twice", {it.name for it in (folder / "out").iterdir()} == due, str(sorted({it.name for it in (folder / "out").iterdir()} ^ due)))
         rest = [str(it) for host in (hosts[0], hosts[2]) for it in host.home.rglob("*.mp4")]
         cases.count("and the hosts that are left have no video", not rest, str(rest))
-        again = subprocess.run(["bash", "-c", quoted], cwd=folder, env=env, stdin=subprocess.DEVNULL, capture_output=True, text=True, timeout=120)
-        cases.count("started again it does nothing more", again.returncode == 0 and [(folder / "out" / it).exists() for it in names] == [True] * len(names), again.stdout + again.stderr)
+        again = subprocess.run(["bash", "-c", quoted], cwd=folder, env=env, stdin=subprocess.DEVNULL, stdout=subprocess.DEVNULL, stderr=subprocess.DEVNULL, timeout=120)
+        jobs = [line.split("\t")[6] for line in (folder / "jobs.log").read_text().splitlines()[1:]]
+        cases.count("started again it does nothing more", again.returncode == 0 and jobs.count("0") == len(names), str(jobs))
     finally:
         for it in hosts:
             it.kill()
