@@ -26,6 +26,10 @@ HEADER = ROOT / "include/imgref.h"
 HEADERS = [HEADER, ROOT / "include/imgref.hpp"]
 PROGRAMS = ("imgref_run", "imgref_frames")
 MAN = ROOT / "man"
+# imgref-hide: its modules, those of the examples that it shares, and what completes its words in a shell.
+HIDE = ROOT / "programs"
+SHARED = ("boxes.py", "detect_faces.py", "detect_people.py", "detecting.py", "review.py", "y4m.py")
+COMPLETIONS = {"share/bash-completion/completions/imgref-hide": "imgref-hide.bash", "share/zsh/site-functions/_imgref-hide": "_imgref-hide"}
 OUT = ROOT / "out/c"
 # The number that changes where a built caller has to be built again.
 ABI = "1"
@@ -139,7 +143,14 @@ def installed():
         **{f"share/man/man{it}": sorted(MAN.glob(f"*.{it}")) for it in (1, 3)},
     }
     files = {f"{below}/{it.name}": it for below, sources in folders.items() for it in sources}
-    return files | {"bin/imgref-boxes": ROOT / "examples/boxes.py"}
+    return files | {"bin/imgref-boxes": ROOT / "examples/boxes.py"} | hiding()
+
+
+def hiding():
+    """The files of imgref-hide, by their paths below a prefix."""
+    files = {"bin/imgref-hide": HIDE / "imgref-hide"} | {path: HIDE / "completions" / name for path, name in COMPLETIONS.items()}
+    files |= {f"share/imgref/programs/imgref_hide/{it.name}": it for it in sorted((HIDE / "imgref_hide").glob("*.py"))}
+    return files | {f"share/imgref/examples/{it}": ROOT / "examples" / it for it in SHARED}
 
 
 def install(prefix, stage=""):

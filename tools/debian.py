@@ -25,6 +25,8 @@ License: Apache-2.0
  /usr/share/common-licenses/Apache-2.0.
 """
 LIBC = "libc6 (>= 2.17)"
+# What imgref-hide needs.
+HIDING = "python3 (>= 3.10), python3-numpy, python3-opencv, python3-pil, opencv-data, ffmpeg"
 ABOUT = " An image is a list of cells with a width, a height and a stride. Windows of it\n are filled, copied, turned and counted without a copy of the image. The calls\n are proved: no access outside an image, and exactly the pixels that are asked.\n"
 
 
@@ -41,10 +43,11 @@ def parts(its):
     developer = {name: data for name, data in own.items() if "/include/" in name} | {f"{lib}/libimgref.so": Link(shared), f"{lib}/libimgref.a": tree["lib/libimgref.a"], f"{lib}/pkgconfig/imgref.pc": config} | cmake
     developer |= {name: data for name, data in pages.items() if "/man3/" in name}
     programs = {name: data for name, data in own.items() if "/bin/" in name} | {name: data for name, data in pages.items() if "/man1/" in name}
+    programs |= {f"usr/{name}".replace("/site-functions/", "/vendor-completions/"): data for name, data in tree.items() if name in c_library.hiding() and not name.startswith("bin/")}
     return {
         "libimgref1": ("strided 2-D images over proved calls - library", "libs", LIBC, library),
         "libimgref-dev": ("strided 2-D images over proved calls - development files", "libdevel", f"libimgref1 (= {VERSION})", developer),
-        "imgref-tools": ("covers parts of video and pictures, and runs scripts of pixels", "graphics", "libc6 (>= 2.34), python3", programs),
+        "imgref-tools": ("covers parts of video and pictures, and runs scripts of pixels", "graphics", f"libc6 (>= 2.34), {HIDING}", programs),
         "python3-imgref": ("strided 2-D images over proved calls - Python package", "python", f"python3 (>= 3.11), {LIBC}", {}),
     }
 

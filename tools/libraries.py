@@ -35,7 +35,7 @@ class Processor:
         own = ["bin"] if with_programs else []
         programs, files = {product(it) for it in c_library.PROGRAMS}, {}
         for name, source in c_library.installed().items():
-            if name.startswith("bin/") and not with_programs:
+            if (name.startswith("bin/") or name in c_library.hiding()) and not with_programs:
                 continue
             if name.startswith("lib/"):
                 source = self.out() / source.name
