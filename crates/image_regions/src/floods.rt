@@ -18,7 +18,9 @@ struct Fill<T> {
 }
 
 // A place that shows the seed gets the value, and is pending from then on: the places beside it have
-// to be looked at. So a place is pending at most once. Returns how many places are.
+// to be looked at. So a place is pending at most once. Returns how many places are. Where another
+// process changes the pixels meanwhile, a place may be pending again and again: the test of the room
+// is for that.
 #[tactic(auto, using(image_model::proofs::Laws::reads, image_model::proofs::Laws::writes))]
 fn fill_one<T: Copy + PartialEq>(
     fill: &Fill<T>,
@@ -41,6 +43,9 @@ fn fill_one<T: Copy + PartialEq>(
         return count;
     };
     if pixel != fill.seed {
+        return count;
+    }
+    if count >= room.len() {
         return count;
     }
     put(cells, fill.shape, x, y, fill.value);
@@ -79,7 +84,8 @@ fn fill_around<T: Copy + PartialEq>(
     fill_one(fill, cells, room, count, (x + 1, y))
 }
 
-// Gives the value to a place that shows the seed, and to each place that is connected with it.
+// Gives the value to a place that shows the seed, and to each place that is connected with it. So many
+// places are pending at most: the number left ends a fill whose pixels another process changes.
 fn fill_from<T: Copy + PartialEq>(
     fill: &Fill<T>,
     cells: &mut [T],
@@ -99,8 +105,10 @@ fn fill_from<T: Copy + PartialEq>(
         (shaped cells.new fill.now.shape) }
 {
     let mut count = fill_one(fill, cells, room, 0, place);
-    while count > 0 {
+    let mut left = room.len();
+    while count > 0 && left > 0 {
         count -= 1;
+        left -= 1;
         let number = room[count];
         count = fill_around(fill, cells, room, count, number);
     }
