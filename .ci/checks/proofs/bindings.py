@@ -24,7 +24,7 @@ from python_package import HOOK, TRIED, described
 PYTHON = ROOT / "bindings/python"
 # The tests of the package, each a program that counts: those of every Python, and those of one.
 QUICK = ("calls", "formats", "shapes", "colours", "buffers", "refusals", "indexes", "regions")
-TESTS = (*QUICK, "reentry", "speed")
+TESTS = (*QUICK, "reentry", "races", "speed")
 # Freed memory is overwritten, so that a read or a write of it shows.
 DEBUGGED = {"PYTHONMALLOC": "debug", "MALLOC_PERTURB_": "165"}
 # A module that is compiled so is for this version of CPython and all later ones.
