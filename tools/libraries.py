@@ -34,10 +34,7 @@ class Processor:
         """The files of its archive, by their paths in it."""
         own = ["bin"] if with_programs else []
         programs, files = {product(it) for it in c_library.PROGRAMS}, {}
-        for name, source in c_library.installed().items():
-            # (the pages of section 1 are those of the programs)
-            if name.startswith(("bin/", "share/man/man1/")) and not with_programs:
-                continue
+        for name, source in sources(with_programs).items():
             if name.startswith("lib/"):
                 source = self.out() / source.name
             files[name] = stripped(source) if source in programs else source.read_bytes()
@@ -47,6 +44,11 @@ class Processor:
         files["LICENSE"] = (ROOT / "LICENSE").read_bytes()
         files["INSTALL"] = INSTALL.format(version=VERSION, processor=self.name, level=LEVELS[self.name], parts=" ".join([*own, "include lib share"]), programs=PROGRAMS[with_programs]).encode()
         return {f"imgref-{VERSION}-{self.name}-linux/{name}": data for name, data in files.items()}
+
+
+def sources(with_programs):
+    """What an archive has of the files that are installed, by their paths in it. The pages of section 1 are those of the programs."""
+    return {name: it for name, it in c_library.installed().items() if with_programs or not name.startswith(("bin/", "share/man/man1/"))}
 
 
 def stripped(program):
