@@ -4,7 +4,7 @@ from __future__ import annotations
 from collections.abc import Mapping, Set
 from operator import index
 from types import EllipsisType
-from typing import Any, Iterator, NoReturn, SupportsIndex, overload
+from typing import TYPE_CHECKING, Any, Iterator, NoReturn, SupportsIndex, overload
 
 from . import _native
 from ._cells import Cell
@@ -104,7 +104,10 @@ class Image(Layout):
         _put(self, x, y, self._pixels.encode(value))
 
     @overload
-    def fill(self, value: Pixel) -> None: ...
+    def fill(self, value: Pixel, /) -> None: ...
+
+    @overload
+    def fill(self, *, value: Pixel) -> None: ...
 
     @overload
     def fill(self, window: Corners, value: Pixel) -> None: ...
@@ -352,9 +355,10 @@ class Image(Layout):
     def _no_sum(self, other: object) -> NoReturn:
         raise TypeError("an image has no arithmetic and no order: numpy.asarray(image) is an array over its pixels, which has")
 
-    __add__ = __radd__ = __sub__ = __rsub__ = __mul__ = __rmul__ = __truediv__ = __rtruediv__ = _no_sum
-    __floordiv__ = __rfloordiv__ = __mod__ = __rmod__ = __pow__ = __rpow__ = __matmul__ = __rmatmul__ = _no_sum
-    __and__ = __rand__ = __or__ = __ror__ = __xor__ = __rxor__ = __lt__ = __le__ = __gt__ = __ge__ = _no_sum
+    if not TYPE_CHECKING:
+        __add__ = __radd__ = __sub__ = __rsub__ = __mul__ = __rmul__ = __truediv__ = __rtruediv__ = _no_sum
+        __floordiv__ = __rfloordiv__ = __mod__ = __rmod__ = __pow__ = __rpow__ = __matmul__ = __rmatmul__ = _no_sum
+        __and__ = __rand__ = __or__ = __ror__ = __xor__ = __rxor__ = __lt__ = __le__ = __gt__ = __ge__ = _no_sum
 
     def __copy__(self) -> Image:
         return self.window((0, 0, self._width, self._height))
