@@ -108,6 +108,11 @@ inline void done(imgref_status status) {
     if (status != IMGREF_OK) throw refused(status);
 }
 
+inline void done_in_place(imgref_status status) {
+    if (status == IMGREF_SIZES_DIFFER) throw refused(status, "only a square is turned by a quarter or transposed in place: turn_into and transpose_into go to another image");
+    done(status);
+}
+
 // Whether every value of a type is one of T, as the compiler's rule for braces says.
 template <class T, class From, class = void> struct fits : std::is_same<T, From> {};
 template <class T, class From>
@@ -433,10 +438,10 @@ public:
     // Turns or transposes this image in place. It has to be a square, unless it is turned by a half.
     // Pixels are as in turn_into.
     void turn(imgref::turn by, std::size_t channels = 1) const {
-        detail::done(calls::turn(written(), len_, pixels_of(width_, channels), height_, stride_, channels, static_cast<imgref_turn>(by)));
+        detail::done_in_place(calls::turn(written(), len_, pixels_of(width_, channels), height_, stride_, channels, static_cast<imgref_turn>(by)));
     }
     void transpose(std::size_t channels = 1) const {
-        detail::done(calls::transpose(written(), len_, pixels_of(width_, channels), height_, stride_, channels));
+        detail::done_in_place(calls::transpose(written(), len_, pixels_of(width_, channels), height_, stride_, channels));
     }
 
     // The first row of the window, or of all, changes places with the last, and so on. Only a window

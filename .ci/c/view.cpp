@@ -304,6 +304,11 @@ static void turns() {
     check("colours are turned whole in place", room == std::array<std::uint8_t, 6>{4, 5, 6, 1, 2, 3});
     check("no turn in place", is_refused(IMGREF_SIZES_DIFFER, [&] { strip.turn(turn::left); }) && is_refused(IMGREF_SIZES_DIFFER, [&] { strip.transpose(3); }) &&
                                   is_refused(IMGREF_NO_TURN, [&] { square.turn(turn{0}); }) && room[0] == 4 && pixels[0] == 3);
+    try {
+        strip.turn(turn::left);
+    } catch (const refused &why) {
+        check("no turn in place: the text says what to do", std::string(why.what()).find("turn_into") != std::string::npos);
+    }
     check("no turn", is_refused(IMGREF_SIZES_DIFFER, [&] { image.turn_into(flat, turn::right); }) && is_refused(IMGREF_NO_TURN, [&] { image.turn_into(flat, turn{4}); }) &&
                          is_refused(IMGREF_SIZES_DIFFER, [&] { image.transpose_into(flat); }) && is_invalid([&] { image.turn_into(image, turn::half); }));
     check("no flip", is_refused(IMGREF_WINDOW_OUTSIDE, [&] { image.flip_rows({2, 0, 2, 2}); }) && is_refused(IMGREF_WINDOW_OUTSIDE, [&] { image.flip_columns({0, 1, 1, 2}); }) &&
