@@ -325,7 +325,7 @@ class Image(Layout):
             return key[1], key[0]
         if key is ... or isinstance(key, slice):
             key = (slice(None) if key is ... else key, slice(None))
-        if isinstance(key, tuple) and len(key) == 2 and isinstance(key[0], slice) == isinstance(key[1], slice):
+        if isinstance(key, tuple) and len(key) == 2 and isinstance(key[0], slice) == isinstance(key[1], slice) and not any(it is ... for it in key):
             sizes = (self._height, self._width)
             if isinstance(key[0], slice):
                 (top, height), (left, width) = map(_piece, key, sizes, ("row", "column"))
