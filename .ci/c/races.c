@@ -12,7 +12,7 @@
 #include <time.h>
 #include <unistd.h>
 
-enum { SIDE = 64, PLACES = SIDE * SIDE, SECONDS = 2 };
+enum { SIDE = 64, PLACES = SIDE * SIDE, SECONDS = 1 };
 
 /* So many bytes, shared with children, that end at a page which can't be touched. */
 static void *guarded(size_t bytes) {

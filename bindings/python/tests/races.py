@@ -8,7 +8,7 @@ import time
 from counting import check, end
 from imgref import Image, bounding_box, components, equalize, flood_fill, histogram, integral
 
-SIDE, SECONDS = 64, 1.5
+SIDE, SECONDS = 64, 0.7
 memory = mmap.mmap(-1, SIDE * SIDE)
 words_memory = mmap.mmap(-1, 2 * SIDE * SIDE)
 

@@ -45,10 +45,11 @@ fn fill_one<T: Copy + PartialEq>(
     if pixel != fill.seed {
         return count;
     }
+    put(cells, fill.shape, x, y, fill.value);
+    // (after the write, or the compiler tests it for places of other pixels too)
     if count >= room.len() {
         return count;
     }
-    put(cells, fill.shape, x, y, fill.value);
     // (both sizes are below 2^32, so the number fits)
     let _rows = fill.shape.height();
     room[count] = y * fill.shape.width() + x;
@@ -74,8 +75,12 @@ fn fill_around<T: Copy + PartialEq>(
     ensures fills { FillsPlaces fill.now T.eq cells.old count room.old cells.new result room.new }
 {
     let width = fill.shape.width();
-    let _height = fill.shape.height();
+    let height = fill.shape.height();
     let (x, y) = (number % width, number / width);
+    // (known to the compiler from here on, this saves two tests)
+    if y >= height {
+        return count;
+    }
     let above = (x, y.saturating_sub(1));
     let before = (x.saturating_sub(1), y);
     let count = fill_one(fill, cells, room, count, above);
@@ -84,8 +89,7 @@ fn fill_around<T: Copy + PartialEq>(
     fill_one(fill, cells, room, count, (x + 1, y))
 }
 
-// Gives the value to a place that shows the seed, and to each place that is connected with it. So many
-// places are pending at most: the number left ends a fill whose pixels another process changes.
+// Gives the value to a place that shows the seed, and to each place that is connected with it.
 fn fill_from<T: Copy + PartialEq>(
     fill: &Fill<T>,
     cells: &mut [T],
@@ -105,10 +109,8 @@ fn fill_from<T: Copy + PartialEq>(
         (shaped cells.new fill.now.shape) }
 {
     let mut count = fill_one(fill, cells, room, 0, place);
-    let mut left = room.len();
-    while count > 0 && left > 0 {
+    while count > 0 {
         count -= 1;
-        left -= 1;
         let number = room[count];
         count = fill_around(fill, cells, room, count, number);
     }

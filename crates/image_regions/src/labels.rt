@@ -168,8 +168,8 @@ fn label_run<T: Copy + PartialEq>(
 }
 
 // Looks at the places of a run: the run of each open one gets the label. Returns how many runs are
-// pending. Where another process changes the labels meanwhile, a place may be open again and again:
-// the test of the room is for that.
+// pending. At least one place gets the label for each, whatever another process does to the pixels:
+// so the labels bound the room.
 fn look_along<T: Copy + PartialEq>(
     search: &Search<'_, T>,
     labels: &mut [u64],
@@ -192,9 +192,6 @@ fn look_along<T: Copy + PartialEq>(
     let mut x = run.from;
     while x < run.to {
         if is_open(search, labels, x, run.y) {
-            if count >= room.len() {
-                return count;
-            }
             x = label_run(search, labels, room, count, x, run.y);
             count += 1;
         } else {

@@ -23,7 +23,6 @@ loop-count-init g c =
       can_go_on s g.T.PartialEq.eq a.cells.now 0 a.room.now one.new.cells one.result one.new.room (can_begin s g.T.PartialEq.eq a.cells.now a.room.now c.requires.fits c.requires.tells c.requires.other c.requires.room) one.ensures.fills,
       one.ensures.fills.outside,
       one.ensures.fills.room,
-      omega (arith, one.ensures.fills.fewer, (can_begin s g.T.PartialEq.eq a.cells.now a.room.now c.requires.fits c.requires.tells c.requires.other c.requires.room).enough, one.ensures.fills.room),
       subst (Flooding old p.0 p.1 s.value (cell_grid s one.new.cells)) (append-nil (to_look_at s one.result one.new.room)) goes_on,
     )
 
@@ -41,21 +40,12 @@ loop-count-preserved g c =
       can_go_on fill g.T.PartialEq.eq l.cells (l.count - 1) l.room on.new.cells on.result on.new.room (one_taken fill g.T.PartialEq.eq l.cells l.count l.room i.0) on.ensures.fills,
       outside_trans (shaped cells fill.shape) (shaped l.cells fill.shape) (shaped on.new.cells fill.shape) i.1 on.ensures.fills.outside,
       on.ensures.fills.room ∙ i.2,
-      omega (arith, i.3, on.ensures.fills.fewer),
-      on.ensures.goes_on (cell_grid fill cells) place.0 place.1 c.requires.shows (subst (Flooding (cell_grid fill cells) place.0 place.1 fill.value (cell_grid fill l.cells)) taken i.4),
+      on.ensures.goes_on (cell_grid fill cells) place.0 place.1 c.requires.shows (subst (Flooding (cell_grid fill cells) place.0 place.1 fill.value (cell_grid fill l.cells)) taken i.3),
     )
 
--- (no place is pending where none is left either)
-pub returns-else-left-gt0-clause-all : goal.returns-else-left-gt0-clause-all
-returns-else-left-gt0-clause-all g c =
+pub returns-clause-all : goal.returns-clause-all
+returns-clause-all g c =
     let a = c.args in
     let s = a.fill.now in
     let l = c.loop-count in
-    flood_ends (cell_grid s a.cells.now) a.place.0 a.place.1 s.value (cell_grid s l.cells) (to_look_at s l.count l.room) l.invariant.4 (ap length (around_none (shape_width s.shape) l.room l.count (omega (arith, l.invariant.3))))
-
-pub returns-after-loop-count-clause-all : goal.returns-after-loop-count-clause-all
-returns-after-loop-count-clause-all g c =
-    let a = c.args in
-    let s = a.fill.now in
-    let l = c.loop-count in
-    flood_ends (cell_grid s a.cells.now) a.place.0 a.place.1 s.value (cell_grid s l.cells) (to_look_at s l.count l.room) l.invariant.4 (ap length (around_none (shape_width s.shape) l.room l.count (omega (arith, l.invariant.3))))
+    flood_ends (cell_grid s a.cells.now) a.place.0 a.place.1 s.value (cell_grid s l.cells) (to_look_at s l.count l.room) l.invariant.3 (ap length (around_none (shape_width s.shape) l.room l.count (omega arith)))

@@ -31,6 +31,13 @@ returns-then-count-room-clause-goes_on g c h left top rest seeded f =
     let same : g.T.PartialEq.eq c.in-Some.pixel s.seed ≡ true = grind (arith, c.ne.ensures, c.if-ne.false) in
     absurd (omega (arith, c.if-count-room.true, c.requires.ready.enough, one_filled s g.T.PartialEq.eq c.requires.ready.tells c.requires.ready.other a.cells.now a.place.0 a.place.1 c.in-Some.pixel (sym c.get.ensures.pixel ∙ c.in-Some.is) same))
 
+pub returns-then-count-room-clause-fills : goal.returns-then-count-room-clause-fills
+returns-then-count-room-clause-fills g c =
+    let a = c.args in
+    let s = a.fill.now in
+    let same : g.T.PartialEq.eq c.in-Some.pixel s.seed ≡ true = grind (arith, c.ne.ensures, c.if-ne.false) in
+    absurd (omega (arith, c.if-count-room.true, c.requires.ready.enough, one_filled s g.T.PartialEq.eq c.requires.ready.tells c.requires.ready.other a.cells.now a.place.0 a.place.1 c.in-Some.pixel (sym c.get.ensures.pixel ∙ c.in-Some.is) same))
+
 pub bounds-room-count : goal.bounds-room-count
 bounds-room-count g c = omega (arith, c.if-count-room.false)
 

@@ -1,25 +1,15 @@
 use Rattle.std.proofs.Common.{◌≡◌, inr, Some, true, false, sym, ap, ◌∙◌, arith, ⊎_elim}
 use Rattle.std.proofs.lemmas.Bool.{cases_lt}
 use Rattle.std.proofs.lemmas.Bool.Decides.{eqb_tells}
-use Rattle.image_model.proofs.Puts.{one_fewer}
 use Rattle.imgref.specs.Words.{ref_grid, shaped}
 use Rattle.image_regions.specs.Runs.{open_places}
-use Rattle.image_regions.proofs.Runs.{adds_on, closed_stays, labelled_closed, outside_closed, tells, was_free}
+use Rattle.image_regions.proofs.Runs.{adds_on, closed_stays, labelled_closed, outside_closed, was_free}
 use Rattle.image_regions.proofs.labels.look_along.Goals as goal
 
 pub returns-then-run-height-clause-looked : goal.returns-then-run-height-clause-looked
 returns-then-run-height-clause-looked g c u p q =
     let s = c.args.search.now in
     outside_closed (λ p. g.T.PartialEq.eq p s.seed) (ref_grid s.image) (shaped c.args.labels.now s.shape) u c.args.run.y (inr (omega arith))
-
--- (an open place leaves room for its run)
-pub returns-then-count-room-clause-looked : goal.returns-then-count-room-clause-looked
-returns-then-count-room-clause-looked g c u p q is =
-    let s = c.args.search.now in
-    let l = shaped c.loop-x.labels s.shape in
-    let i = c.loop-x.invariant in
-    let clear : (open_places s g.T.PartialEq.eq c.loop-x.labels).pixel c.loop-x.x c.args.run.y ≡ Some true = c.is_open.ensures ∙ ap Some c.if-is_open.true in
-    omega (arith, c.if-count-room.true, c.requires.ready.enough, i.0.fewer, i.0.room, one_fewer l c.loop-x.x c.args.run.y 0 s.label (λ e. omega (arith, e, c.requires.ready.some)) (tells (λ p. g.T.PartialEq.eq p s.seed) (ref_grid s.image) l c.loop-x.x c.args.run.y clear).0)
 
 -- a run got the label
 pub loop-x-preserved-then-is_open : goal.loop-x-preserved-then-is_open
