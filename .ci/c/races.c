@@ -22,9 +22,9 @@ static void *guarded(size_t bytes) {
     return made + room - bytes;
 }
 
-static uint8_t *bytes;
+static uint8_t *bytes, *few;
 static uint16_t *words;
-static uint64_t *labels, *counts, *areas;
+static uint64_t *labels, *counts;
 static size_t *room;
 
 static void floods(void) {
@@ -45,10 +45,14 @@ static void regions_of_words(void) {
     (void)imgref_u16_components(words, PLACES, SIDE, SIDE, SIDE, labels, PLACES, SIDE, room, PLACES, &count);
 }
 
-/* Labels that another process writes: they are marks of the call. */
-static void regions_of_labels(void) {
+/* Few places that change all the time: a place that is read twice may show two pixels, and the room is soon full. */
+static void floods_of_four(void) {
+    (void)imgref_u8_flood_fill(few, 4, 2, 2, 2, 0, 0, 7, room + PLACES - 4, 4);
+}
+
+static void regions_of_four(void) {
     uint64_t count;
-    (void)imgref_u16_components(words, PLACES, SIDE, SIDE, SIDE, areas, PLACES, SIDE, room, PLACES, &count);
+    (void)imgref_u8_components(few, 4, 2, 2, 2, labels, 4, 2, room + PLACES - 4, 4, &count);
 }
 
 static void boxes(void) {
@@ -90,11 +94,14 @@ static void others_change(void) {
     for (unsigned k = 1;; k = k * 1664525u + 1013904223u) {
         volatile uint8_t *byte = bytes + k / 7 % PLACES;
         volatile uint16_t *word = words + k / 7 % PLACES;
-        volatile uint64_t *label = areas + k / 7 % PLACES;
         *byte ^= 1;
         *word ^= 1;
-        *label = 0;
     }
+}
+
+static void others_change_four(void) {
+    for (;;)
+        for (size_t k = 0; k < 4; k++) ((volatile uint8_t *)few)[k] ^= 1;
 }
 
 static pid_t started(void (*work)(void)) {
@@ -121,7 +128,8 @@ int main(void) {
     } all[] = {
         {"flood_fill", floods},         {"flood_fill of words", floods_of_words},
         {"components", regions},        {"components of words", regions_of_words},
-        {"components, the labels", regions_of_labels},
+        {"flood_fill of four places", floods_of_four},
+        {"components of four places", regions_of_four},
         {"bounding_box", boxes},        {"histogram", histograms},
         {"histogram of words", histograms_of_words},
         {"equalize", equalized},        {"integral", sums},
@@ -131,12 +139,13 @@ int main(void) {
     bytes = guarded(PLACES);
     words = guarded(PLACES * sizeof *words);
     labels = guarded(PLACES * sizeof *labels);
-    areas = guarded(PLACES * sizeof *areas);
+    few = guarded(4);
     counts = guarded(65536 * sizeof *counts);
     room = guarded(PLACES * sizeof *room);
-    void (*const others[])(void) = {others_zero, others_change};
+    void (*const others[])(void) = {others_zero, others_change, others_change_four};
+    const char *const what[] = {"become 0", "change", "change without a pause"};
     for (size_t k = 0; k < sizeof all / sizeof *all; k++)
-        for (size_t n = 0; n < 2; n++) {
+        for (size_t n = strstr(all[k].name, "four") ? 2 : 0; n < (strstr(all[k].name, "four") ? 3 : 2); n++) {
             int status = 1;
             const pid_t other = started(others[n]);
             tried = all[k].call;
@@ -146,7 +155,7 @@ int main(void) {
             waitpid(other, NULL, 0);
             const bool is_well = WIFEXITED(status) && !WEXITSTATUS(status);
             is_well ? passed++ : failed++;
-            printf("%s while pixels %s: %s%s\n", all[k].name, n ? "change" : "become 0", is_well ? "passed" : "FAILED: ", is_well ? "" : WIFSIGNALED(status) ? strsignal(WTERMSIG(status)) : "status");
+            printf("%s while pixels %s: %s%s\n", all[k].name, what[n], is_well ? "passed" : "FAILED: ", is_well ? "" : WIFSIGNALED(status) ? strsignal(WTERMSIG(status)) : "status");
             fflush(stdout);
         }
     printf("%u passed, %u failed\n", passed, failed);
