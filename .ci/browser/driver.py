@@ -34,14 +34,15 @@ KEYS = {
 }
 FLAGS = (
     "--headless=new", "--no-sandbox", "--disable-gpu", "--window-size=1280,1200",
-    "--hide-scrollbars", "--force-device-scale-factor=1", "--disable-background-networking",
+    "--force-device-scale-factor=1", "--disable-background-networking",
     # (the frame of the page in the process of its page, so that what the driver emulates holds in it)
     "--disable-features=IsolateSandboxedIframes",
 )
 FIREFOXES = ("firefox-esr", "firefox")
 FIREFOX_FLAGS = ("--headless", "--no-remote", "--marionette", "--remote-allow-system-access")
-# A free port, the folder for files, and nothing that asks, looks for anything or takes the keys from the page.
+# A free port, the folder for files, scroll bars that take room, and nothing that asks, looks for anything or takes the keys from the page.
 FIREFOX_SETTINGS = {
+    "widget.gtk.overlay-scrollbars.enabled": False,
     "marionette.port": 0, "browser.download.folderList": 2, "browser.download.useDownloadDir": True,
     "browser.download.always_ask_before_handling_new_types": False, "browser.download.alwaysOpenPanel": False, "browser.shell.checkDefaultBrowser": False,
     "datareporting.policy.dataSubmissionEnabled": False, "app.update.enabled": False, "app.normandy.enabled": False,
@@ -54,7 +55,7 @@ FIREFOX_SETTINGS = {
 FIREFOX_COMMANDS = {
     "/url": "Navigate", "/frame": "SwitchToFrame", "/execute/sync": "ExecuteScript", "/execute/async": "ExecuteAsyncScript",
     "/element": "FindElement", "/element/click": "ElementClick", "/element/value": "ElementSendKeys",
-    "/actions": "PerformActions", "/screenshot": "TakeScreenshot",
+    "/actions": "PerformActions", "/screenshot": "TakeScreenshot", "/print": "Print",
 }
 DOWNLOADS = """const done = arguments[0], { Downloads } = ChromeUtils.importESModule("resource://gre/modules/Downloads.sys.mjs");
 Downloads.getList(Downloads.ALL).then((it) => it.getAll()).then((all) => done(all.map((it) => [it.target.path, it.succeeded])));"""
@@ -157,6 +158,15 @@ class Session:
     def text(self, selector):
         return self.run("return document.querySelector(arguments[0]).textContent", selector)
 
+    def printed(self):
+        """The page as it is printed to a file of PDF."""
+        inside = self.is_inside
+        self.enter(None)
+        data = base64.b64decode(self.ask("POST", "/print", {"background": True}))
+        if inside:
+            self.enter()
+        return data
+
     def screenshot(self):
         return base64.b64decode(self.ask("GET", "/screenshot"))
 
@@ -182,7 +192,7 @@ class Session:
 class Browser(Session):
     """A session of Chromium."""
 
-    def __init__(self, driver, program, folder):
+    def __init__(self, driver, program, folder, flags=()):
         self.port_file, self.folder = folder / "driver.log", folder
         self.log = open(self.port_file, "w", encoding="utf-8")
         self.process = subprocess.Popen(
@@ -191,7 +201,7 @@ class Browser(Session):
         try:
             self.base = f"http://127.0.0.1:{until(self.port)}"
             wanted = {"goog:loggingPrefs": {"performance": "ALL", "browser": "ALL"},
-                      "goog:chromeOptions": {"binary": program, "args": list(FLAGS)}}
+                      "goog:chromeOptions": {"binary": program, "args": [*FLAGS, *flags], "excludeSwitches": ["hide-scrollbars"]}}
             made = self.ask("POST", "/session", {"capabilities": {"alwaysMatch": wanted}})
             self.base += f"/session/{made['sessionId']}"
         except BaseException:
@@ -260,8 +270,8 @@ def until(tells, what=""):
 class Firefox(Session):
     """A session of Firefox, over its protocol: texts of JSON, each with its length before it, on a port of this machine."""
 
-    def __init__(self, program, folder):
-        self.folder, self.count, self.left = folder / "saved", 0, b""
+    def __init__(self, program, folder, more):
+        self.folder, self.count, self.left, self.more_settings = folder / "saved", 0, b"", more
         room = folder / "profile"
         room.mkdir()
         self.folder.mkdir()
@@ -281,7 +291,7 @@ class Firefox(Session):
             raise
 
     def settings(self):
-        return {**FIREFOX_SETTINGS, "browser.download.dir": str(self.folder)}
+        return {**FIREFOX_SETTINGS, "browser.download.dir": str(self.folder), **self.more_settings}
 
     def end(self):
         with contextlib.suppress(OSError, RuntimeError):
@@ -343,15 +353,15 @@ class Firefox(Session):
 
 
 @contextlib.contextmanager
-def firefox():
-    """Firefox until the end of the block, or None where this machine lacks it."""
+def firefox(settings=None):
+    """Firefox until the end of the block, with these settings besides its own, or None where this machine lacks it."""
     program = found(FIREFOXES)
     if not program:
         print("Firefox (firefox-esr): skipped, it isn't on this machine")
         yield None
         return
     with tempfile.TemporaryDirectory(prefix="firefox-", ignore_cleanup_errors=True) as room:
-        made = Firefox(program, pathlib.Path(room))
+        made = Firefox(program, pathlib.Path(room), settings or {})
         try:
             yield made
         finally:
@@ -359,8 +369,8 @@ def firefox():
 
 
 @contextlib.contextmanager
-def browser():
-    """A browser until the end of the block, or None where this machine lacks one or its driver."""
+def browser(*flags):
+    """A browser until the end of the block, with these flags besides its own, or None where this machine lacks one or its driver."""
     program, driver = found(BROWSERS), found(DRIVERS)
     if not program or not driver:
         missing = " and ".join(
@@ -370,7 +380,7 @@ def browser():
         yield None
         return
     with tempfile.TemporaryDirectory(prefix="browser-", ignore_cleanup_errors=True) as room:
-        made = Browser(driver, program, pathlib.Path(room))
+        made = Browser(driver, program, pathlib.Path(room), flags)
         try:
             yield made
         finally:
