@@ -7,8 +7,9 @@ import { find } from "./common.js";
 const HOLD = 250, STILL = 6;
 
 export class Pointers {
-  /** The `acts` are called in a drag: `begin`, `move`, `end` and `cancel`; `swipe` where a finger scrolls. `isOpen` tells whether
-      there is a picture. */
+  // (`isOpen` of the acts tells whether there is a picture)
+
+  /** The `acts` are called in a drag: `begin`, `move`, `end` and `cancel`; `swipe` where a finger scrolls. */
   constructor(surface, view, acts) {
     Object.assign(this, { surface, view, acts, fingers: new Map(), mode: "", timer: 0 });
     surface.addEventListener("pointerdown", (event) => this.down(event));

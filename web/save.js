@@ -42,8 +42,8 @@ export class Saver {
         return;
       }
       this.ready = { ...shown, bytes: null, file };
-      this.sheet.show(bitmap, shown.size, shown.marks);
       this.tell(`${shown.name} will have these ${shown.size.join(" by ")} pixels.`);
+      this.sheet.show(bitmap, shown.size, shown.marks);
       this.allow(true);
       find("hand").focus();
     } catch (why) {

@@ -25,8 +25,9 @@ export function isOnStage(edit) {
 export class Stage {
   // (with the tool `select` a drag moves or resizes a rectangle; with every other one it draws, wherever it begins)
 
-  /** The `acts` are called with what a person does: `draw`, `change`, `select`, `remove`, `swipe`; `isOpen` tells whether there is
-      a picture. `tool` gives the tool. */
+  // (`isOpen` of the acts tells whether there is a picture)
+
+  /** The `acts` are called with what a person does: `draw`, `change`, `select`, `remove`, `swipe`. `tool` gives the tool. */
   constructor(acts, tool) {
     Object.assign(this, { acts, tool, drag: null, edits: [], selected: -1, warned: [] });
     for (const it of ["stage", "frame", "canvas", "overlay", "drop"]) {
@@ -126,8 +127,9 @@ export class Stage {
     return this.view.turned.place([(event.clientX - box.left) / this.scale, (event.clientY - box.top) / this.scale]);
   }
 
-  /** The pixels from one place of a pointer to another: each that is under a pixel of the screen which it touched. Or null, where
-      it was beside the picture all the time. */
+  // (or null, where the pointer was beside the picture all the time)
+
+  /** The pixels from one place of a pointer to another: each that is under a pixel of the screen which it touched. */
   touched(from, to) {
     const most = [this.canvas.width, this.canvas.height];
     const inside = (value, axis) => Math.min(Math.max(value, 0), most[axis]);

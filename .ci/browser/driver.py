@@ -78,7 +78,8 @@ def found(names):
 
 class Session:
     """What is done in a browser. Its `ask` carries out a command of WebDriver."""
-    is_inside, next_save, folder = False, 0, None
+    # (whether a test may read the clipboard)
+    is_inside, next_save, folder, can_copy = False, 0, None, False
 
     def ask(self, method, path, body=None):
         raise NotImplementedError
@@ -191,6 +192,14 @@ class Session:
 
 class Browser(Session):
     """A session of Chromium."""
+    can_copy = True
+
+    def hold_enter(self, count):
+        """Enter is held: it comes so often again."""
+        key = {"key": "Enter", "code": "Enter", "windowsVirtualKeyCode": 13, "text": "\r"}
+        for at in range(count):
+            self.devtools("Input.dispatchKeyEvent", type="keyDown", autoRepeat=at > 0, **key)
+        self.devtools("Input.dispatchKeyEvent", type="keyUp", key="Enter", code="Enter", windowsVirtualKeyCode=13)
 
     def __init__(self, driver, program, folder, flags=()):
         self.port_file, self.folder = folder / "driver.log", folder
@@ -342,6 +351,11 @@ class Firefox(Session):
     def corner(self):
         # (its places are those in the frame)
         return 0, 0
+
+    def hold_enter(self, count):
+        """Enter is held: it comes so often again."""
+        acts = [*[{"type": "keyDown", "value": KEYS["Enter"]}] * count, {"type": "keyUp", "value": KEYS["Enter"]}]
+        self.ask("POST", "/actions", {"actions": [{"type": "key", "id": "keys", "actions": acts}]})
 
     def downloads(self):
         """The list of downloads that a person sees: each with its path, and whether it is complete."""
