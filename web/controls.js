@@ -69,8 +69,11 @@ function takeOnce(buttons) {
     }
   }, true);
   window.addEventListener("pointerdown", (event) => isSecond(event) && stop(event), true);
+  let began = null;
   window.addEventListener("keydown", (event) => {
-    if (event.repeat && ["Enter", " "].includes(event.key) && buttons.includes(event.target)) {
+    const isHeld = event.repeat && (event.target !== began || buttons.includes(event.target));
+    began = event.repeat ? began : event.target;
+    if (isHeld && ["Enter", " "].includes(event.key)) {
       event.preventDefault();
     }
   }, true);

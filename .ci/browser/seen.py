@@ -163,8 +163,30 @@ def check_twice(page):
     page.count("Enter that is held shows the file once, and saves it once", files_of(page) == ["covered.png"] and not is_open(page), files_of(page))
     for it in page.browser.folder.glob("covered*"):
         it.unlink()
+    page.browser.run("document.getElementById('undo').focus()")
+    page.browser.press("Control", "s")
+    until(lambda: not page.is_off("hand"))
+    page.browser.hold_enter(30)
+    until(lambda: files_of(page) == ["covered.png"])
+    time.sleep(A_WHILE)
+    page.count("and presses no button that gets the focus then", page.list() == "fill 1,1,9,9 3\n" and not is_open(page))
+    for it in page.browser.folder.glob("covered*"):
+        it.unlink()
+
+
+def check_jpeg_copied(page):
+    """What is copied of a JPEG is what is shown of it."""
+    if page.browser.can_copy:
+        page.open()
+        page.apply("fill 0,0,60,40 200,30,7")
+        page.browser.change("format", "jpeg")
+        page.preview()
+        seen = copied(page)
+        page.count("a JPEG is copied as it is shown", seen[:2] == [WIDTH, HEIGHT] and max(abs(a - b) for a, b in zip(seen[2:], (200, 30, 7, 255))) <= 6, seen)
+        page.browser.click("#to-edits")
+        page.browser.change("format", "png")
 
 
 def check(page):
-    for it in (check_field, check_below, check_paper, check_twice):
+    for it in (check_field, check_below, check_jpeg_copied, check_paper, check_twice):
         it(page)
