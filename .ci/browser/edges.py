@@ -13,7 +13,8 @@ DRAFTS = "return document.querySelectorAll('#overlay .draft').length"
 BARS = "const it = document.getElementById('stage'); return [it.offsetWidth - it.clientWidth, it.offsetHeight - it.clientHeight, it.scrollWidth - it.clientWidth, it.scrollHeight - it.clientHeight]"
 STROKE = "return Number(document.querySelector('#overlay .stroke').getAttribute('stroke-width'))"
 TOPS = "return ['open', 'save', 'undo', 'redo'].map((it) => { const box = document.getElementById(it).getBoundingClientRect(); return [box.top, box.height]; })"
-CUT = "return ['open', 'save', 'undo', 'redo'].filter((it) => { const box = document.getElementById(it).getBoundingClientRect(); return box.left < 0 || box.right > innerWidth; })"
+CUT = """const side = document.getElementById('side'), most = side.getBoundingClientRect().left + side.clientLeft + side.clientWidth;
+return ['open', 'save', 'undo', 'redo'].filter((it) => document.getElementById(it).getBoundingClientRect().right > most)"""
 HEADER = """const it = document.querySelector('header'), before = it.getBoundingClientRect();
 scrollTo(0, 1000);
 const after = it.getBoundingClientRect(), frame = document.querySelector('iframe').getBoundingClientRect();
