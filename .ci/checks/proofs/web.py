@@ -147,6 +147,7 @@ def check_page(cases, program):
             check(page)
         acts.check_keys(page)
         acts.check_undo(page)
+        acts.check_taken_back(page)
         acts.check_hidden(page)
         acts.check_means(page)
         turns.check(page, program)
