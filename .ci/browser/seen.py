@@ -112,7 +112,7 @@ def check_paper(page):
     page.open()
     page.apply("fill 2,2,10,8 0\ncrop 10,8,30,20")
     found = sizes_of(page.browser.printed())
-    page.count("printed without the preview, no pixel is on the paper", found == [], found)
+    page.count("printed without the preview, there is no picture", found == [], found)
     ids = page.browser.run(ACTIVE, *page.on_screen((20, 15))[0])
     page.count("no menu is about the picture with its edits", "canvas" not in ids and "overlay" in ids, ids)
     page.preview()
