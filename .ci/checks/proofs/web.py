@@ -307,7 +307,8 @@ def main(words):
     cases = Cases()
     if made(cases, "web"):
         if words == ["--screenshots"]:
-            with served(OUT) as (url, _), browser() as found:
+            # (as where scroll bars are over the page)
+            with served(OUT) as (url, _), browser("--hide-scrollbars") as found:
                 shots.take(picture.Page(found, url, cases), ROOT / "docs")
             return cases.end()
         check_files(cases)
