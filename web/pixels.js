@@ -113,10 +113,14 @@ export class Pixels {
   /** The edits that read or write one of these rectangles. All that they read or write is added to the rectangles. */
   closed(places) {
     const found = new Set();
-    const next = () => this.applied.find((it) => !found.has(it) && usedBy(it).some((one) => places.some((other) => common(one, other))));
-    for (let it = next(); it; it = next()) {
-      found.add(it);
-      places.push(...usedBy(it));
+    // (the rectangles grow meanwhile)
+    for (const place of places) {
+      for (const it of this.applied) {
+        if (!found.has(it) && usedBy(it).some((one) => common(one, place))) {
+          found.add(it);
+          places.push(...usedBy(it));
+        }
+      }
     }
     return found;
   }
