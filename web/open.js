@@ -14,7 +14,7 @@ const TAKEN = "This page takes up to 32,767 pixels on a side, and 100 million in
 
 export class Opener {
   constructor(page) {
-    Object.assign(this, { page, waiting: [], turn: null, file: null });
+    Object.assign(this, { page, waiting: [], turn: null, file: null, given: null });
   }
 
   /** Opens the first of these files. The others come after it, and then those that waited before. */
@@ -42,13 +42,16 @@ export class Opener {
     }
     const text = page.hasDraft ? "The text has changes that aren't applied. " : "";
     const edits = page.isListUnsaved ? `${plural(length, "edit")} of ${page.name} ${length === 1 ? "isn't" : "aren't"} saved. ` : "";
-    return await asked(`${edits}${text}Open ${name} all the same?`) === "discard";
+    const isGiven = await asked(`${edits}${text}Open ${name} all the same?`) === "discard";
+    // (an earlier word counts no more)
+    this.given = isGiven ? this.given : null;
+    return isGiven;
   }
 
   /** Opens a file. What is made while the browser decodes it isn't lost without a question. */
   async open(file) {
-    const { page } = this, turn = (this.turn = {}), given = page.state;
-    this.file = file;
+    const { page } = this, turn = (this.turn = {});
+    [this.file, this.given] = [file, page.state];
     page.say(`Opening ${file.name} …`);
     this.render();
     const read = await readFile(file), why = read.why?.(file.name);
@@ -56,7 +59,7 @@ export class Opener {
       // (a person may draw, or look at the file that would be saved)
       await idle(page.stage);
     }
-    const isLast = () => turn === this.turn, isTaken = isLast() && !why && (page.state === given || await this.mayLose(file.name));
+    const isLast = () => turn === this.turn, isTaken = isLast() && !why && (page.state === this.given || await this.mayLose(file.name));
     if (isLast()) {
       this.file = null;
       if (why) {

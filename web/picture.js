@@ -163,7 +163,7 @@ export class PicturePage {
   }
 
   /** Whether what a person typed is in the list, or may be left out of the file. */
-  async isTypingOver() {
+  async endAllTyping() {
     if (!this.endTyping()) {
       return false;
     }

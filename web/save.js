@@ -24,7 +24,7 @@ export class Saver {
   /** Makes the file, and shows what is in it. Until it is closed nothing else can be changed or opened. */
   async preview() {
     const { page } = this;
-    if (isDialogOpen() || !await page.isTypingOver()) {
+    if (isDialogOpen() || !await page.endAllTyping()) {
       return;
     }
     const format = find("format").value, turn = (this.turn = {}), shown = this.shownNow(format);
