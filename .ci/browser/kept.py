@@ -40,6 +40,21 @@ def check_late(page):
     said = until(lambda: page.status() if "large.png" in page.status() else "")
     page.count("they are kept, and the picture comes next", page.list() == "fill 10,8,20,12 0\n" and page.browser.run(NEXT) == "Next picture (1 left)", said)
     page.start()
+    page.open()
+    page.apply("fill 1,1,9,9 3")
+    page.browser.run(HELD)
+    files(page, large=whole)
+    until(lambda: page.browser.run(ASKED))
+    press(page, "discard")
+    until(lambda: page.browser.run("return Boolean(window.goOn)"), "for the file")
+    files(page, third=whole)
+    until(lambda: page.browser.run(ASKED))
+    press(page, "keep")
+    page.browser.run(GO_ON)
+    said = until(lambda: page.browser.run(ASKED) or page.list() == "", "for a question")
+    press(page, "keep")
+    page.count("edits that are kept after an earlier word: a question is asked", "Open large.png all the same?" in str(said) and page.list() == "fill 1,1,9,9 3\n", said)
+    page.start()
 
 
 def check_queue(page):
