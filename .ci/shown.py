@@ -43,7 +43,7 @@ OTHERS = [
     ("README.md", "make python ", "proofs/bindings.py"),
     ("README.md", "rt new ", "run_filter"),
     ("README.md", "#![tactic", "run_filter"),
-    ("CONTRIBUTING.md", "sudo apt-get ", "fresh_machine.py: it is what tools/needs.txt lists"),
+    ("CONTRIBUTING.md", "sudo apt-get ", "fresh_machine.py: it takes what tools/needs.txt lists"),
     ("docs/ARCHITECTURE.md", "programs ", "nothing: it is a map"),
     ("docs/C.md", "make c ", "proofs/c_library.py"),
     ("docs/CALLERS.md", "//! Three functions", "run_filter"),

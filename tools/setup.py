@@ -3,7 +3,7 @@
 
     setup.py           all of it, also what `make gate` and `make release` alone need
     setup.py test      what `make test` needs
-    setup.py list      prints the packages, as CONTRIBUTING.md shows them
+    setup.py list      prints the packages, for the line of CONTRIBUTING.md
 
 It says which packages, and how large they are. Where it may not install them (no root and no `sudo` without a password), or where
 there is no apt-get, it prints the line to type, and ends with status 1. A package that apt doesn't know is named and left out.
@@ -17,8 +17,6 @@ import sys
 from needs import imports, missing, needs, of_tests
 from processes import end_on_signals, run_to_end, started
 
-# The columns of a line that lists packages.
-COLUMNS = 100
 # Packages are asked for twice, and a server that is silent isn't waited for longer than these seconds. Another apt-get has this long
 # to end.
 PATIENCE = ["-o", "Acquire::Retries=1", "-o", "Acquire::http::Timeout=20", "-o", "Acquire::https::Timeout=20", "-o", "DPkg::Lock::Timeout=300"]
@@ -115,19 +113,9 @@ def set_up(packages):
     return left
 
 
-def listed():
-    """The line of CONTRIBUTING.md: a command in lines of at most COLUMNS, each indented as code."""
-    lines, line = [], "    sudo apt-get install --no-install-recommends"
-    for it in needs():
-        if len(line) + len(it) + 3 > COLUMNS:
-            lines, line = [*lines, f"{line} \\"], "       "
-        line += f" {it}"
-    return "\n".join([*lines, line])
-
-
 def main(words):
     if words == ["list"]:
-        print(listed())
+        print(*needs())
         return 0
     if words not in ([], ["test"]):
         sys.exit(__doc__)

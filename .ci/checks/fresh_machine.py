@@ -18,13 +18,12 @@ sys.path.insert(0, str(pathlib.Path(__file__).resolve().parent.parent))
 from checking import ROOT, Cases, changeable_copy
 
 import face
-import setup
 from gate import Part, lacking
 from needs import needs
 from workspace import KITS, LOGIC
 
-# What each Debian has, what comes with another package of the list, and what is this repository's or Rattle's own.
-BASE = {"sh", "bash", "cat", "date", "env", "true", "sudo", "tar", "sha256sum", "dpkg-deb", "apt-get", "unshare", "strip", "rustc", "rt", "imgref_frames"}
+# What each Debian has, what comes with another package of the list, and what is of this repository or of Rattle, as an edit is.
+BASE = {"sh", "bash", "cat", "date", "env", "true", "sudo", "tar", "sha256sum", "dpkg-deb", "apt-get", "unshare", "mount", "umount", "strip", "rustc", "ssh", "sshd", "ssh-keygen", "rt", "imgref_frames", "means"}
 # A program that a script looks for or starts.
 STARTED = re.compile(r"""(?:which|lacks|run|Popen|command|run_to_end|first)\(\[?"([a-z][\w.+-]*)"(?=[,)\]])""")
 # The tools that a person starts, with words that do something.
@@ -75,8 +74,10 @@ def count_line(cases, label, made, text):
 
 
 def check_list(cases):
-    """The list of packages is the one of CONTRIBUTING.md, and has what the scripts look for and start."""
-    cases.count("CONTRIBUTING.md has the line of `tools/setup.py list`", setup.listed() in (ROOT / "CONTRIBUTING.md").read_text(), setup.listed())
+    """The line of CONTRIBUTING.md takes its packages from the list, which has what the scripts look for and start."""
+    line = "    sudo apt-get install --no-install-recommends $(python3 tools/setup.py list)\n"
+    status, wrote, _ = said([sys.executable, "tools/setup.py", "list"], ROOT, os.environ["PATH"])
+    cases.count("the line of CONTRIBUTING.md takes each package of tools/needs.txt", line in (ROOT / "CONTRIBUTING.md").read_text() and status == 0 and wrote.split() == [*needs()], wrote)
     wrong = [it for it in (ROOT / "tools/needs.txt").read_text().splitlines() if it and not it.startswith("#") and it != "gate" and it.split(" | ")[0] not in needs()]
     cases.count("each line of tools/needs.txt is read", not wrong and len(needs()) > 30, str(wrong))
     known = BASE | {name for it in needs().values() for name in (it.package, *it.shown_by)}
