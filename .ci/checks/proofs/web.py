@@ -257,9 +257,6 @@ class Prefixed:
     def count(self, label, is_well, said=""):
         self.cases.count(f"{self.name}: {label}", is_well, said)
 
-    def skip(self, label, *lacking, number=1):
-        self.cases.skip(f"{self.name}: {label}", *lacking, number=number)
-
 
 class Faults:
     """Counts the cases that fail, and prints nothing: for a page that is wrong."""
