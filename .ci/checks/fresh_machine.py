@@ -4,6 +4,7 @@
 The tools run in a copy of the repository, with a folder for PATH that has only what a case names, a `rt` that proves nothing and an
 `apt-get` that installs nothing. So nothing of this machine changes, and nothing is proved.
 """
+import ast
 import contextlib
 import fcntl
 import os
@@ -15,7 +16,7 @@ import sys
 import tempfile
 
 sys.path.insert(0, str(pathlib.Path(__file__).resolve().parent.parent))
-from checking import ROOT, Cases, changeable_copy
+from checking import ROOT, Cases, changeable_copy, permitted
 
 import face
 from gate import Part, lacking
@@ -84,6 +85,17 @@ def check_list(cases):
     started = {(name, str(path.relative_to(ROOT))) for folder in ("tools", ".ci", "bindings/python", "examples") for path in (ROOT / folder).rglob("*.py") for name in STARTED.findall(path.read_text())}
     lost = sorted(it for it in started if it[0] not in known)
     cases.count(f"tools/needs.txt has each of the {len({it[0] for it in started})} programs that scripts start", not lost and len(started) > 40, str(lost))
+
+
+def check_lacks(cases):
+    """What a check says is lacking is in tools/needs.txt, or is what a kernel or processor may lack."""
+    known = permitted("machine") | {name for it in needs().values() for name in (it.package, *it.shown_by)}
+    found = set()
+    for path in sorted((ROOT / ".ci").rglob("*.py")):
+        calls = (it for it in ast.walk(ast.parse(path.read_text())) if isinstance(it, ast.Call) and getattr(it.func, "attr", "") in ("skip", "lacks") and path.name != "fresh_machine.py")
+        found |= {(part.value, path.name) for it in calls for word in it.args[1:] for part in ast.walk(word) if isinstance(part, ast.Constant) and re.fullmatch(r"[a-z][\w+. -]+", str(part.value))}
+    lost = sorted(it for it in found if it[0] not in known and it[0] != "debug")
+    cases.count(f"each of the {len(found)} things that a check may lack is listed", not lost and len(found) > 20, str(lost))
 
 
 def check_counts(cases):
@@ -210,6 +222,7 @@ def check_face(cases, top):
 def main():
     cases = Cases()
     check_list(cases)
+    check_lacks(cases)
     check_counts(cases)
     with changeable_copy() as made:
         # (a path with a space and an accent)
