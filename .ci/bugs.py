@@ -16,8 +16,8 @@ STALE = "stale: "
 
 @dataclasses.dataclass
 class Bug:
-    """A planted bug: its file, its pairs of old and new text by file, the function of each pair or None, the written answers that it
-    makes stale, each by its file and goal, and its copy's proof folder.
+    """A planted bug: its file, its pairs of old and new text by file, the function of each pair or None, what it makes stale of the written
+    answers, each by its file and goal, and its copy's proof folder.
 
     `folder` is False where the bug is tried in the function itself, None where the function has no proof files."""
 
@@ -41,7 +41,7 @@ class Bug:
         return self.folder is not False
 
     def stale_here(self):
-        """The written answers that it makes stale, where it is planted: a copy has copies of them."""
+        """What it makes stale of the written answers, where it is planted: a copy has copies of them."""
         return [(self.moved(file), goal) for file, goal in self.stale]
 
     def moved(self, file):

@@ -50,7 +50,7 @@ def main():
         cases.count(f"{what}: its text is there once", texts[path].count(text) == 1, path)
         found = functions_affected(bugs, {**texts, path: texts[path].replace(text, before)})
         more = {it for it in found - wanted if spared is None or it.split("/")[0] in spared}
-        cases.count(f"{what}: affects {', '.join(sorted(wanted)) or 'none'}{'' if spared is None else ' and who else cites it'}", wanted <= found and not more, f"affected: {sorted(found)}")
+        cases.count(f"{what}: affects {', '.join(sorted(wanted)) or 'none'}{' and who else cites it' if spared else ''}", wanted <= found and not more, f"affected: {sorted(found)}")
     return cases.end()
 
 
