@@ -633,12 +633,12 @@ public:
         return made;
     }
     // It becomes `colour`.
-    void put(std::size_t x, std::size_t y, const element (&colour)[N]) const { std::copy(colour, colour + N, at(x, y)); }
+    template <std::size_t M> void put(std::size_t x, std::size_t y, const element (&colour)[M]) const { std::copy(whole_colour(colour), colour + N, at(x, y)); }
 
     // Every colour of the window becomes `colour`. For all the window is whole().
-    void fill(const rect &window, const element (&colour)[N]) const { elements_.fill_pixels(window, colour); }
-    // How many colours of the window, or of all, are `colour`.
-    std::size_t count(const rect &window, const element (&colour)[N]) const { return elements_.count_pixels(window, colour); }
+    template <std::size_t M> void fill(const rect &window, const element (&colour)[M]) const { elements_.fill_pixels(window, whole_colour(colour)); }
+    // How many colours of the window are `colour`.
+    template <std::size_t M> std::size_t count(const rect &window, const element (&colour)[M]) const { return elements_.count_pixels(window, whole_colour(colour)); }
 
     // The calls of a view, as they are there.
     void copy(const rect &window, const colour_view<const element, N> &source) const { elements_.copy(in_elements(window), source.elements_); }
@@ -660,6 +660,12 @@ public:
     tile_range tiles(std::size_t tile_width, std::size_t tile_height) const { return {width(), height(), tile_width, tile_height}; }
 
 private:
+    // (an array of N would take fewer elements in braces too, and zeros for the others)
+    template <std::size_t M> static const element (&whole_colour(const element (&colour)[M]) noexcept)[M] {
+        static_assert(M == N, "a colour has as many elements as the view has channels");
+        return colour;
+    }
+
     // A number of colours in elements. What is too large for any image stays so.
     static constexpr std::size_t in_elements(std::size_t number) noexcept { return number > static_cast<std::size_t>(-1) / N ? static_cast<std::size_t>(-1) : number * N; }
     static rect in_elements(const rect &it) noexcept { return {in_elements(it.left), it.top, in_elements(it.width), it.height}; }

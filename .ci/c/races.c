@@ -1,5 +1,5 @@
 /* The calls whose loops or tables go by pixels, while another process changes these pixels. Results are unspecified then, but no
- * call writes outside its buffers, and each ends. Every buffer ends at a page that can't be touched, and each call is tried in a
+ * call writes outside its buffers. Every buffer ends at a page that can't be touched, and each call is tried in a
  * process of its own, so that a write outside is told. Prints 'N passed, M failed' last. */
 #define _DEFAULT_SOURCE
 #include <imgref.h>
