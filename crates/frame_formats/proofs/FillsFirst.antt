@@ -48,11 +48,11 @@ use Rattle.frame_formats.specs.declared.layers.Layer.TheVariants.{Pixels, Sample
 
 bound : {A B : Type 0} (o : Option A) (k : A → Option B) (d : B) → (o >>= k) ≡ Some d → (v : A) × (o ≡ Some v) × (k v ≡ Some d)
 bound None k d made = absurd cc
-bound (Some v) k d made = (v, (refl, made))
+bound (Some v) k d made = (v, refl, made)
 
 mapped : {A B : Type 0} (g : A → B) (o : Option A) (d : B) → option_map g o ≡ Some d → (v : A) × (o ≡ Some v) × (g v ≡ d)
 mapped g None d made = absurd cc
-mapped g (Some v) d made = (v, (refl, some_is (g v) d made))
+mapped g (Some v) d made = (v, refl, some_is (g v) d made)
 
 kept : {A : Type 0} (b : Bool) (o : Option A) (d : A) → (if b then None else o) ≡ Some d → o ≡ Some d
 kept true o d made = absurd cc
@@ -69,8 +69,8 @@ made_of : {A B : Type 0} (f : A → Option B) (x : A) (xs : List A) (ys : List B
 unfolding all_some
 made_of f x xs ys made =
     let one = bound (f x) (λ y. all_some f xs >>= λ zs. Some (y ∷ zs)) ys made in
-    let more = bound (all_some f xs) (λ zs. Some (one.0 ∷ zs)) ys one.1.1 in
-    record { first = one.0; rest = more.0; here = one.1.0; others = more.1.0; are = sym (some_is (one.0 ∷ more.0) ys more.1.1) }
+    let more = bound (all_some f xs) (λ zs. Some (one.0 ∷ zs)) ys one.2 in
+    record { first = one.0; rest = more.0; here = one.1; others = more.1; are = sym (some_is (one.0 ∷ more.0) ys more.2) }
 
 none_made : {A B : Type 0} (f : A → Option B) (ys : List B) → all_some f [] ≡ Some ys → ys ≡ []
 unfolding all_some
@@ -116,7 +116,7 @@ settled_kind (Boxed margin) s width height (Flip axes) = (refl, refl)
 
 in_kind : (pixel : Pixel) (c : Change Paint) (d : Change (List ℕ)) → change_in pixel c ≡ Some d → SameKind c d
 unfolding change_in
-in_kind pixel (Fill w paint) d made = let v = mapped (λ value. Fill w value) (value_in pixel paint) d made in same_kind (Fill w paint) (Fill w v.0) d v.1.1 (refl, refl)
+in_kind pixel (Fill w paint) d made = let v = mapped (λ value. Fill w value) (value_in pixel paint) d made in same_kind (Fill w paint) (Fill w v.0) d v.2 (refl, refl)
 in_kind pixel (Mosaic w wide high) d made = same_kind (Mosaic w wide high) _ d (some_is _ d made) (refl, refl)
 in_kind pixel (Mean w wide high bytes) d made = same_kind (Mean w wide high bytes) _ d (some_is _ d made) (refl, refl)
 in_kind pixel (Blur w across down bytes) d made = same_kind (Blur w across down bytes) _ d (some_is _ d made) (refl, refl)
@@ -133,35 +133,35 @@ opaque_kind pixel (Flip axes) = (refl, refl)
 
 under_kind : (pixel : Pixel) (x y width height : ℕ) (c d : Change (List ℕ)) → change_under pixel x y width height c ≡ Some d → SameKind c d
 unfolding change_under
-under_kind pixel x y width height (Fill w value) d made = let u = bound _ _ d made in same_kind (Fill w value) _ d (some_is _ d u.1.1) (refl, refl)
+under_kind pixel x y width height (Fill w value) d made = let u = bound _ _ d made in same_kind (Fill w value) _ d (some_is _ d u.2) (refl, refl)
 under_kind pixel x y width height (Mosaic w wide high) d made =
     let u = bound _ _ d made in
-    let a = bound _ _ d u.1.1 in
-    let b = bound _ _ d a.1.1 in
-    same_kind (Mosaic w wide high) _ d (some_is _ d b.1.1) (refl, refl)
+    let a = bound _ _ d u.2 in
+    let b = bound _ _ d a.2 in
+    same_kind (Mosaic w wide high) _ d (some_is _ d b.2) (refl, refl)
 under_kind pixel x y width height (Mean w wide high bytes) d made =
     let u = bound _ _ d made in
-    let a = bound _ _ d u.1.1 in
-    let b = bound _ _ d a.1.1 in
-    same_kind (Mean w wide high bytes) _ d (some_is _ d b.1.1) (refl, refl)
-under_kind pixel x y width height (Blur w across down bytes) d made = let u = bound _ _ d made in same_kind (Blur w across down bytes) _ d (some_is _ d u.1.1) (refl, refl)
+    let a = bound _ _ d u.2 in
+    let b = bound _ _ d a.2 in
+    same_kind (Mean w wide high bytes) _ d (some_is _ d b.2) (refl, refl)
+under_kind pixel x y width height (Blur w across down bytes) d made = let u = bound _ _ d made in same_kind (Blur w across down bytes) _ d (some_is _ d u.2) (refl, refl)
 under_kind pixel x y width height (Move w left top) d made =
     let u = bound _ _ d made in
-    let g = bound _ _ d u.1.1 in
-    same_kind (Move w left top) _ d (some_is _ d g.1.1) (refl, refl)
+    let g = bound _ _ d u.2 in
+    same_kind (Move w left top) _ d (some_is _ d g.2) (refl, refl)
 under_kind pixel x y width height (Flip axes) d made = same_kind (Flip axes) _ d (some_is _ d made) (refl, refl)
 
 on_kind : (pixel : Pixel) (layer : Layer) (width height : ℕ) (c : Change Paint) (d : Change (List ℕ)) → change_on pixel layer width height c ≡ Some d → SameKind c d
 on_kind pixel Pixels width height c d made = in_kind pixel c d made
 on_kind pixel Alpha width height c d made =
     let v = mapped (opaque_change pixel) (change_in pixel c) d made in
-    let first = in_kind pixel c v.0 v.1.0 in
+    let first = in_kind pixel c v.0 v.1 in
     let second = opaque_kind pixel v.0 in
-    same_kind c (opaque_change pixel v.0) d v.1.1 (second.0 ∙ first.0, second.1 ∙ first.1)
+    same_kind c (opaque_change pixel v.0) d v.2 (second.0 ∙ first.0, second.1 ∙ first.1)
 on_kind pixel (Samples x y) width height c d made =
     let v = bound (change_in pixel c) (change_under pixel x y width height) d made in
-    let first = in_kind pixel c v.0 v.1.0 in
-    let second = under_kind pixel x y width height v.0 d v.1.1 in
+    let first = in_kind pixel c v.0 v.1 in
+    let second = under_kind pixel x y width height v.0 d v.2 in
     (second.0 ∙ first.0, second.1 ∙ first.1)
 
 -- ---- steps of the same frames
@@ -175,12 +175,12 @@ record SameStep {V W : Type 0} (s : Step V) (t : Step W) : Type 0 where
 by_same : {V W : Type 0} (become : Change V → Option (Change W)) (kind : (c : Change V) (d : Change W) → become c ≡ Some d → SameKind c d) (s : Step V) (t : Step W) → step_by become s ≡ Some t → SameStep s t
 by_same become kind s t made =
     let v = mapped (λ change. record { first = s.first; end = s.end; change = change }) (become s.change) t made in
-    let same = kind s.change v.0 v.1.0 in
+    let same = kind s.change v.0 v.1 in
     record {
-      first = ap (λ u. u.first) (sym v.1.1);
-      end = ap (λ u. u.end) (sym v.1.1);
-      spread = ap (λ u. spreads u.change) (sym v.1.1) ∙ same.0;
-      fill = ap (λ u. fills u.change) (sym v.1.1) ∙ same.1;
+      first = ap (λ u. u.first) (sym v.2);
+      end = ap (λ u. u.end) (sym v.2);
+      spread = ap (λ u. spreads u.change) (sym v.2) ∙ same.0;
+      fill = ap (λ u. fills u.change) (sym v.2) ∙ same.1;
     }
 
 module _ {V W : Type 0} (f : Step V → Option (Step W)) (same : (s : Step V) (t : Step W) → f s ≡ Some t → SameStep s t) (number : ℕ) where
@@ -269,11 +269,11 @@ module _ (unit : Unit) (rate : Option Rate) (width height : ℕ) where
   is_step e t made =
       let v = mapped (λ span. record { first = span.0; end = span.1; change = settled_by e.scope unit width height e.change }) (frames_for unit rate e) t made in
       let kind = settled_kind e.scope unit width height e.change in
-      let spanned = kept (unit.interlaced && turns_over e.change) (frames_in rate e.range) v.0 v.1.0 in
+      let spanned = kept (unit.interlaced && turns_over e.change) (frames_in rate e.range) v.0 v.1 in
       record {
-        frames = spanned ∙ ap (λ (u : Step Paint). Some (u.first, u.end)) v.1.1;
-        spread = ap (λ (u : Step Paint). spreads u.change) (sym v.1.1) ∙ kind.0;
-        fill = ap (λ (u : Step Paint). fills u.change) (sym v.1.1) ∙ kind.1;
+        frames = spanned ∙ ap (λ (u : Step Paint). Some (u.first, u.end)) v.2;
+        spread = ap (λ (u : Step Paint). spreads u.change) (sym v.2) ∙ kind.0;
+        fill = ap (λ (u : Step Paint). fills u.change) (sym v.2) ∙ kind.1;
       }
 
   spans : (e : Edit) (t : Step Paint) (n : ℕ) → IsStep e t → names t n ≡ true → Spans rate e.range n
@@ -322,8 +322,8 @@ module _ (unit : Unit) (rate : Option Rate) (width height : ℕ) where
 job_steps : (pixel : Pixel) (layer : Layer) (width height n : ℕ) (steps : List (Step Paint)) (j : Job) → fills_first n steps ≡ true → job_on pixel layer width height steps ≡ Some j → fills_first n j.steps ≡ true
 job_steps pixel layer width height n steps j first made =
     let v = bound (all_some (step_by (change_on pixel layer width height)) steps) (job_for (pixel_size pixel) (layer_width layer width) (layer_height layer height)) j made in
-    let same = first_same (step_by (change_on pixel layer width height)) (by_same (change_on pixel layer width height) (on_kind pixel layer width height)) n steps v.0 v.1.0 in
-    ap (fills_first n) (sym (planned (is_job (pixel_size pixel) (layer_width layer width) (layer_height layer height) v.0) (job (pixel_size pixel) (layer_width layer width) (layer_height layer height) v.0) v.1.1)) ∙ same ∙ first
+    let same = first_same (step_by (change_on pixel layer width height)) (by_same (change_on pixel layer width height) (on_kind pixel layer width height)) n steps v.0 v.1 in
+    ap (fills_first n) (sym (planned (is_job (pixel_size pixel) (layer_width layer width) (layer_height layer height) v.0) (job (pixel_size pixel) (layer_width layer width) (layer_height layer height) v.0) v.2)) ∙ same ∙ first
   where
     planned : (b : Bool) (k : Job) → (if b then Some k else None) ≡ Some j → k.steps ≡ j.steps
     planned true k is = ap (λ (i : Job). i.steps) (some_is k j is)
@@ -344,9 +344,9 @@ jobs_stay : (head : Resize → List ℕ) (jobs : List Job) (more : Resize → Op
     → (resize >>= λ s. if new_height s == 0 then None else option_map (λ resizings. recipe (head s) jobs (Some resizings)) (more s)) ≡ Some r → r.jobs ≡ jobs
 jobs_stay head jobs more resize r made =
     let v = bound resize (λ s. if new_height s == 0 then None else option_map (λ resizings. recipe (head s) jobs (Some resizings)) (more s)) r made in
-    let o = kept (new_height v.0 == 0) (option_map (λ resizings. recipe (head v.0) jobs (Some resizings)) (more v.0)) r v.1.1 in
+    let o = kept (new_height v.0 == 0) (option_map (λ resizings. recipe (head v.0) jobs (Some resizings)) (more v.0)) r v.2 in
     let w = mapped (λ resizings. recipe (head v.0) jobs (Some resizings)) (more v.0) r o in
-    ap (λ (s : Recipe). s.jobs) (sym w.1.1)
+    ap (λ (s : Recipe). s.jobs) (sym w.2)
 
 video_jobs : (line : List ℕ) (format : Format) (jobs : List Job) (framing : Option Framing) (r : Recipe) → finished_video line format jobs framing ≡ Some r → r.jobs ≡ jobs
 video_jobs line format jobs None r made = ap (λ (s : Recipe). s.jobs) (sym (some_is (recipe (line ++ 10 ∷ []) jobs None) r made))
@@ -363,16 +363,16 @@ picture_jobs p jobs (Some framing) r made =
 pub videos_fill : FilledAlike → VideosHideFilled
 videos_fill law e line r first made number p q a =
     let f = bound (format_of line) (λ format. all_some (step_in (video_unit format) (rate_of line) format.width format.height) e.steps >>= λ steps. jobs_on format.pixel (video_layers format.chroma) format.width format.height steps >>= λ jobs. finished_video line format jobs e.framing) r made in
-    let s = bound (all_some (step_in (video_unit f.0) (rate_of line) f.0.width f.0.height) e.steps) (λ steps. jobs_on f.0.pixel (video_layers f.0.chroma) f.0.width f.0.height steps >>= λ jobs. finished_video line f.0 jobs e.framing) r f.1.1 in
-    let j = bound (jobs_on f.0.pixel (video_layers f.0.chroma) f.0.width f.0.height s.0) (λ jobs. finished_video line f.0 jobs e.framing) r s.1.1 in
-    let steps = steps_first (video_unit f.0) (rate_of line) f.0.width f.0.height number e.steps s.0 first s.1.0 in
-    let jobs = jobs_first f.0.pixel f.0.width f.0.height number s.0 steps (video_layers f.0.chroma) j.0 j.1.0 in
-    law number r.jobs p q (subst (FillFirst number) (sym (video_jobs line f.0 j.0 e.framing r j.1.1)) jobs) a
+    let s = bound (all_some (step_in (video_unit f.0) (rate_of line) f.0.width f.0.height) e.steps) (λ steps. jobs_on f.0.pixel (video_layers f.0.chroma) f.0.width f.0.height steps >>= λ jobs. finished_video line f.0 jobs e.framing) r f.2 in
+    let j = bound (jobs_on f.0.pixel (video_layers f.0.chroma) f.0.width f.0.height s.0) (λ jobs. finished_video line f.0 jobs e.framing) r s.2 in
+    let steps = steps_first (video_unit f.0) (rate_of line) f.0.width f.0.height number e.steps s.0 first s.1 in
+    let jobs = jobs_first f.0.pixel f.0.width f.0.height number s.0 steps (video_layers f.0.chroma) j.0 j.1 in
+    law number r.jobs p q (subst (FillFirst number) (sym (video_jobs line f.0 j.0 e.framing r j.2)) jobs) a
 
 pub pictures_fill : FilledAlike → PicturesHideFilled
 pictures_fill law e i r first made number p q a =
     let s = bound (all_some (step_in one_pixel None i.width i.height) e.steps) (λ steps. jobs_on (picture_pixel i) picture_layers i.width i.height steps >>= λ jobs. finished_picture i jobs e.framing) r made in
-    let j = bound (jobs_on (picture_pixel i) picture_layers i.width i.height s.0) (λ jobs. finished_picture i jobs e.framing) r s.1.1 in
-    let steps = steps_first one_pixel None i.width i.height number e.steps s.0 first s.1.0 in
-    let jobs = jobs_first (picture_pixel i) i.width i.height number s.0 steps picture_layers j.0 j.1.0 in
-    law number r.jobs p q (subst (FillFirst number) (sym (picture_jobs i j.0 e.framing r j.1.1)) jobs) a
+    let j = bound (jobs_on (picture_pixel i) picture_layers i.width i.height s.0) (λ jobs. finished_picture i jobs e.framing) r s.2 in
+    let steps = steps_first one_pixel None i.width i.height number e.steps s.0 first s.1 in
+    let jobs = jobs_first (picture_pixel i) i.width i.height number s.0 steps picture_layers j.0 j.1 in
+    law number r.jobs p q (subst (FillFirst number) (sym (picture_jobs i j.0 e.framing r j.2)) jobs) a
