@@ -50,6 +50,7 @@ LIMITS = {
     "docs/DIFFERENCES.md": 1750,
     "docs/FRAMES.md": 3200,
     "docs/GLOSSARY.md": 1500,
+    "docs/HIDE.md": 1000,
     "docs/PERF.md": 2200,
     "docs/PERFORMANCE.md": 1600,
     "docs/PROMISES.md": 3000,
@@ -78,7 +79,7 @@ MOST_LOOSE = 14
 WRITTEN = {"API.md"}
 # What is searched for odd words besides the documents: their comments and their texts within quotes.
 SOURCES = ["Makefile", "crates/*/src/**/*.rt", "crates/*/specs/**/*.antt", "crates/*/proofs/**/*.antt", "tools/*.py", ".ci/**/*.py"]
-SOURCES += [".ci/c/*.[ch]", "include/*.h", "bench/*.[cr]*", "examples/**/*.[chpr]*", "include/*.hpp", "bindings/**/*.[hpr]*", "man/*", "web/*.*"]
+SOURCES += ["programs/**/*.py", "programs/imgref-hide", ".ci/c/*.[ch]", "include/*.h", "bench/*.[cr]*", "examples/**/*.[chpr]*", "include/*.hpp", "bindings/**/*.[hpr]*", "man/*", "web/*.*"]
 # Words and phrases that are hard to understand, each with what to say.
 TICS = {
     r"want of memory": "out of memory",

@@ -2,6 +2,7 @@
 
 command     the words that a user types, and the status
 one         one video from the first check to the last line
+paths       what may be read and written
 many        a folder of videos, and its table
 probing     what ffprobe says of a video, and whether it is cut off
 encoding    how ffmpeg decodes the video, and how it encodes the output

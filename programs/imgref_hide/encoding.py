@@ -169,9 +169,8 @@ def not_kept(video, bits):
     """What of the format isn't kept, in words."""
     if video.bits not in (8, 10):
         yield f"{video.bits} bits become {bits}"
-    sampling = re.search(r"(?:yuv[aj]*|p2|p4)(\d{3}|1\d)", video.pixels)
     if not re.match(r"(?:yuvj?420p|nv12|p010|gray)", video.pixels):
-        yield f"the pixels {video.pixels} become {'yuv420p10le' if bits > 8 else 'yuv420p'}{': half the colours across and down' if sampling is None or sampling[1] != '420' else ''}"
+        yield f"the pixels {video.pixels} become {'yuv420p10le' if bits > 8 else 'yuv420p'}: half the colours across and down, and nothing shines through"
     transfer = video.colours.get("color_transfer")
     if transfer in HDR and bits > 8:
         yield f"HDR ({HDR[transfer]}) is kept; figures of a screen's brightness and Dolby Vision aren't"

@@ -1,4 +1,3 @@
-#!/usr/bin/env python3
 """Finds faces or people in raw video on its standard input by all cores, and prints a tracker's list. imgref-hide starts it.
 
     finding.py --check ..        only tries whether the detectors are there

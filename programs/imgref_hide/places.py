@@ -49,8 +49,11 @@ def said_by(*words):
 
 def versions(program, python):
     """The versions of all that has a part in an output. Without a Python for the detectors OpenCV has none."""
+    own = said_by(program, "--version")
+    if not own.startswith("imgref_frames "):
+        raise Failure(f"{program} isn't imgref_frames: by --version it says '{own}'")
     found = {
-        "imgref_frames": said_by(program, "--version"),
+        "imgref_frames": own,
         "ffmpeg": re.sub(r" Copyright.*", "", said_by("ffmpeg", "-version")),
         "python": sys.version.split()[0],
     }

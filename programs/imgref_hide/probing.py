@@ -33,7 +33,6 @@ class Video:
     duration: float
     size: int
     turned: int
-    packets: int
     sounds: list
     others: list
 
@@ -87,8 +86,8 @@ def turned_by(stream):
     return -int(float(stream.get("tags", {}).get("rotate", 0))) % 360
 
 
-def probe(path):
-    """What is in a file. A file without a video, or one that can't be read, is a Failure."""
+def probe(path, may_be_damaged=False):
+    """What is in a file. A file without a video, or one that can't be read, is a Failure; so is one that is cut off, where it may not be."""
     status, out, said = asked(["ffprobe", "-v", "error", "-show_entries", ENTRIES, "-of", "json", named(path)])
     reason = re.sub(r"^.*?: (?=\S)", "", said.splitlines()[-1]) if said else ""
     if status:
@@ -105,10 +104,11 @@ def probe(path):
     rate = fraction(stream.get("r_frame_rate")) or fraction(stream.get("avg_frame_rate")) or Fraction(25)
     colours = {it: stream[it] for it in ("color_range", "color_space", "color_transfer", "color_primaries") if stream.get(it) not in (None, "unknown", "reserved")}
     duration = number(stream.get("duration")) or number(form.get("duration")) or 0.0
-    packets = whole(path, stream, form, streams)
+    if not may_be_damaged:
+        check_whole(path, stream, form, streams)
     return Video(
         path, form.get("format_name", ""), *size, stream.get("pix_fmt", "yuv420p"), bits_of(stream.get("pix_fmt")), stream.get("field_order", "progressive"), colours,
-        rate, fraction(stream.get("avg_frame_rate")) or rate, duration, int(form.get("size", 0)), turned, packets,
+        rate, fraction(stream.get("avg_frame_rate")) or rate, duration, int(form.get("size", 0)), turned,
         [it.get("codec_name", "unknown") for it in streams if it.get("codec_type") == "audio"],
         [kind_of(it) for it in streams if it is not stream and it.get("codec_type") != "audio"],
     )  # fmt: skip
@@ -125,8 +125,8 @@ class CutOff(Failure):
     """A video that is cut off."""
 
 
-def whole(path, stream, form, streams):
-    """How many packets the video has. One whose container says more is cut off."""
+def check_whole(path, stream, form, streams):
+    """Counts the packets of a video. One whose container says more is cut off."""
     entries, is_mov = "packet=stream_index,pts_time,duration_time", "mov" in form.get("format_name", "")
     # (an edit list may leave out frames, which are there)
     all_of_it = ["-ignore_editlist", "1"] if is_mov else []
@@ -150,7 +150,6 @@ def whole(path, stream, form, streams):
         raise CutOff(f"{path} is cut off: {said.splitlines()[-1] if said else 'ffprobe failed'}")
     if not count:
         raise Failure(f"{path} has no frame of video")
-    return count
 
 
 def left_in(path):

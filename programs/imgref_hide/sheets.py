@@ -1,4 +1,3 @@
-#!/usr/bin/env python3
 """Writes the contact sheets of an output, from raw video on its standard input. imgref-hide starts it.
 
     sheets.py REPORT SHEET FRAMES MOST

@@ -31,7 +31,7 @@ from version import VERSION
 ROOTS = pathlib.Path(os.environ.get("IMGREF_ROOTS", "/var/tmp/imgref"))
 MIRROR, SUITE = "http://deb.debian.org/debian", "bookworm"
 # (of another processor nothing is run while its root is made: its packages are only unpacked)
-WORDS = {"amd64": ["--include=gcc,g++,libc6-dev,python3,python3-venv,python3-pip,python3-numpy,cargo,ffmpeg,pkg-config,man-db"], "arm64": ["--foreign", "--arch=arm64", "--include=python3"]}
+WORDS = {"amd64": ["--include=gcc,g++,libc6-dev,python3,python3-venv,python3-pip,python3-numpy,cargo,ffmpeg,pkg-config,man-db,python3-opencv,opencv-data,python3-pil"], "arm64": ["--foreign", "--arch=arm64", "--include=python3"]}
 # The roots, each as soon as it is made.
 MADE = {}
 # The same commit in both copies: its files decide, and no clock.
@@ -209,7 +209,8 @@ def provenance(cases, release):
 def make_root(name):
     """A root of Debian's, made once, or the name of what is lacking for it."""
     made, words = ROOTS / name, WORDS[name]
-    if (made / "made").is_file():
+    # (a root of an earlier check may lack a package)
+    if (made / "made").is_file() and (made / "made").read_text() == " ".join(words):
         return made
     if not shutil.which("debootstrap"):
         return "debootstrap"
@@ -228,7 +229,7 @@ def make_root(name):
         if "--foreign" in words:
             run(["dpkg-deb", "-x", it, made])
         it.unlink()
-    (made / "made").write_text("")
+    (made / "made").write_text(" ".join(words))
     return made
 
 
@@ -275,11 +276,11 @@ def tried_inside(cases, release, room):
     """The packages where there is no toolchain and no network, each as its page says."""
     made = MADE["amd64"].result()
     if isinstance(made, str):
-        cases.skip("a release where there is no toolchain", made, number=12)
+        cases.skip("a release where there is no toolchain", made, number=14)
         return
     inside = Inside(made, room)
     if not shutil.which("unshare") or inside.run("true")[0]:
-        cases.skip("a release where there is no toolchain", "namespaces", number=12)
+        cases.skip("a release where there is no toolchain", "namespaces", number=14)
         return
     given(room / "given", release)
     status, wrote, said = inside.run("command -v rt; ls /opt; cat /proc/net/dev | tail -n +3 | cut -d: -f1")
@@ -302,6 +303,7 @@ def tried_inside(cases, release, room):
         status, wrote, said = inside.run(f"cd /tmp; {command}")
         cases.count(label, (status, wrote.decode()) == (0, due), said)
     video_inside(cases, inside)
+    hiding_inside(cases, inside)
     wheel_inside(cases, inside)
 
 
@@ -309,6 +311,7 @@ def given(folder, release):
     """Puts into a folder what is tried in a root."""
     for it in release.iterdir():
         shutil.copy2(it, folder / it.name)
+    shutil.copy2(ROOT / "docs/person.png", folder)
     (folder / "first.c").write_text(snippet("docs/C.md", "#include <imgref.h>"))
     (folder / "readme.cpp").write_text(snippet("README.md", "#include <cstdint>"))
     example = snippet("docs/CPP.md", "std::vector<unsigned char> cells(640 * 480);")
@@ -325,6 +328,17 @@ def video_inside(cases, inside):
     frames = [wrote[at : at + wide * high] for at in range(0, len(wrote), wide * high)]
     is_covered = [it[y * wide + 16 : y * wide + 80] == b"\x09" * 64 for it in frames for y in range(8, 56)]
     cases.count("imgref_frames covers a video between two ffmpeg processes", status == 0 and len(frames) == 5 and all(is_covered), said[:2000])
+
+
+def hiding_inside(cases, inside):
+    """After the packages are installed, one command hides a drawn face, and makes the sheet."""
+    made = "cd /tmp && ffmpeg -v error -loop 1 -framerate 12 -i /given/person.png -filter_complex 'color=c=gray:s=320x180:r=12[a];[a][0]overlay=x=4*n:y=0,trim=end_frame=6' -pix_fmt yuv420p face.mp4 && "
+    status, wrote, said = inside.run(f"{made} imgref-hide face.mp4 out.mp4 && ffmpeg -v error -i out.mp4 -pix_fmt gray -f rawvideo -")
+    frames = [wrote[at : at + 320 * 180] for at in range(0, len(wrote), 320 * 180)]
+    eyes = [max(max(frame[y * 320 + 72 + 4 * at : y * 320 + 120 + 4 * at]) for y in range(64, 82)) for at, frame in enumerate(frames)]
+    cases.count("imgref-hide covers a face after dpkg -i alone", status == 0 and len(frames) == 6 and max(eyes) < 40, f"{eyes} {said[-2000:] if status else ''}")
+    status, wrote, said = inside.run("cd /tmp; head -c 4 out.sheet.png | tail -c 3; man 1 imgref-hide | head -1 | grep -o -m1 '^IMGREF-HIDE(1)'; bash -c 'complete -p imgref-hide 2>&1; . /usr/share/bash-completion/completions/imgref-hide; complete -p imgref-hide'")
+    cases.count("and makes its sheet, with a man page and completion", status == 0 and wrote.startswith(b"PNGIMGREF-HIDE(1)\n") and b"-F _imgref_hide" in wrote, said)
 
 
 def wheel_inside(cases, inside):

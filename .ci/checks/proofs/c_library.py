@@ -238,7 +238,7 @@ def check_cmake(cases, prefix, room):
 def check_man(cases, prefix):
     """The man pages have no fault of form. They name each call of the header, and each edit and command of the programs."""
     pages = {it.name: it.read_text() for it in sorted((prefix / "share/man").glob("*/*"))}
-    cases.count("the man pages", list(pages) == ["imgref-boxes.1", "imgref_frames.1", "imgref_run.1", "imgref.3"], str(list(pages)))
+    cases.count("the man pages", list(pages) == ["imgref-boxes.1", "imgref-hide.1", "imgref_frames.1", "imgref_run.1", "imgref.3"], str(list(pages)))
     if not cases.lacks("the form of the man pages", "groff", number=len(pages)):
         for it in sorted((prefix / "share/man").glob("*/*")):
             status, _, said = run(["groff", "-man", "-Tutf8", "-ww", "-z", it])
@@ -270,6 +270,25 @@ def check_programs(cases, prefix):
     cases.count("imgref_frames is installed", (status, wrote) == (0, b"P5\n2 1\n255\nBA"), said)
     status, wrote, said = run([prefix / "bin/imgref-boxes"], input=b"frame,x1,y1,x2,y2\n1,2,3,5,7\n")
     cases.count("imgref-boxes is installed", (status, wrote) == (0, b"1,-1,2,3,3,4\n"), said)
+    check_hiding(cases, prefix)
+
+
+def check_hiding(cases, prefix):
+    """imgref-hide runs from where it is installed, with what is installed alone, and its pages name each of its options."""
+    status, wrote, said = run([prefix / "bin/imgref-hide", "--help"])
+    options = set(re.findall(r"--[a-z-]+", wrote.decode()))
+    cases.count("imgref-hide is installed", status == 0 and len(options) > 25, said)
+    page = (prefix / "share/man/man1/imgref-hide.1").read_text().replace("\\-", "-")
+    for label, text in (("the man page", page), ("bash", (prefix / "share/bash-completion/completions/imgref-hide").read_text()), ("zsh", (prefix / "share/zsh/site-functions/_imgref-hide").read_text())):
+        lacking = sorted(it for it in options if not re.search(re.escape(it) + r"(?![a-z-])", text))
+        cases.count(f"imgref-hide: each option is known to {label}", not lacking, str(lacking))
+    lacks = cases.lacks("imgref-hide as installed", "ffmpeg")
+    if not lacks:
+        with tempfile.TemporaryDirectory() as room:
+            run(["ffmpeg", "-v", "error", "-f", "lavfi", "-i", "testsrc2=size=64x48:rate=5:duration=1", "-pix_fmt", "yuv420p", f"{room}/in.mkv"])
+            command = [prefix / "bin/imgref-hide", "in.mkv", "out.mkv", "--sheet", "0", "--detector", "cat > /dev/null; echo frame,left,top,width,height; echo 1,8,8,16,16"]
+            status, _, said = run(command, cwd=room, env={"PATH": f"{prefix}/bin:{os.environ['PATH']}"})
+            cases.count("imgref-hide covers as it is installed", status == 0 and pathlib.Path(room, "out.mkv").is_file() and pathlib.Path(room, "out.covers.csv").is_file(), said)
 
 
 def check_staged(cases, prefix, room):
