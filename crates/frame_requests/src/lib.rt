@@ -2,6 +2,7 @@
 //! was found of the input of a run.
 #![tactic(auto)]
 
+mod apart;
 mod asked;
 mod boxes;
 mod late;
@@ -9,6 +10,7 @@ mod options;
 mod seen;
 mod words;
 
+pub use apart::{FileId, Files, Role, are_one, reads_input_twice, shared_file};
 pub use asked::edits_asked;
 pub use boxes::with_boxes;
 pub use late::{Hiding, late_pairs};
