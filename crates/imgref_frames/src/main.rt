@@ -84,7 +84,7 @@ Cover first: a move, a mosaic, means or a blur before a cover may show what it c
 See docs/FRAMES.md.";
 
 // The version of the program and of the library.
-const VERSION: &str = "imgref_frames 0.3.1";
+const VERSION: &str = "imgref_frames 0.4.0";
 
 // No files of edits.
 const NO_TEXTS: Texts<'static> = Texts {
