@@ -10,6 +10,7 @@ mod ending;
 mod fault;
 mod lines;
 mod notes;
+mod placed;
 mod places;
 mod ranges;
 mod reasons;
