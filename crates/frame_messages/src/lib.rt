@@ -11,6 +11,7 @@ mod fault;
 mod late;
 mod lines;
 mod notes;
+mod placed;
 mod places;
 mod ranges;
 mod reasons;

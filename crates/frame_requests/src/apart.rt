@@ -48,8 +48,8 @@ pub fn are_one(a: Option<FileId<'_>>, b: Option<FileId<'_>>) -> bool
     }
 }
 
-/// Two of the files of a run that are one, and the first of which is written: nothing that is read or
-/// written may be overwritten. A new file may get the name of the input.
+/// Two files of a run that are one, of which the first is written. Nothing that is read or written may
+/// be overwritten, except that a new file may get the name of the input.
 pub fn shared_file(files: &Files<'_>) -> Option<(Role, Role)>
     ensures shared { IfSome result (IsShared files.now) }
     ensures apart { result ≡ None → AreApart files.now }

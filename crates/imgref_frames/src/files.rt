@@ -277,7 +277,8 @@ fn missing_id<'a>(rt: &HostRuntime, name: &'a str) -> FileId<'a> {
     }
 }
 
-/// The file of this name, also by another name or a link to it. A pipe, a folder and a device are none.
+/// The file of this name, also by another name or a link to it. `None` for a pipe, a folder and a
+/// device.
 pub(crate) fn id_of<'a>(rt: &HostRuntime, name: &'a str) -> Option<FileId<'a>> {
     match fs::metadata(rt, name) {
         Ok(found) => {

@@ -71,8 +71,8 @@ OPTION:
        --with WORD V     in the place of a cover for each box: fill V, fill R,G,B, mosaic TW,TH,
                          means TW,TH or blur R; of these only fill hides it
        --require-box     a frame without a box is a fault, known at the end
-       --report FILE     writes frame,left,top,width,height of each box and each cover as it
-                         was drawn, with frames from 1
+       --report FILE     writes frame,left,top,width,height of each box and each cover, where
+                         the output has it, with frames from 1
        --frames N        another number of frames is a fault, known at the end; a list may
                          say it itself, by a line # frames N
        --strict          what else is a note is a fault: a range that the input doesn't reach,
@@ -240,7 +240,7 @@ impl Call<'_> {
     fn write_report(&self, seen: &Seen, count: u64, file: File) -> io::Result<()> {
         let alloc = self.rt.alloc();
         let mut writer = BufWriter::new(alloc, file)?;
-        write_report(alloc, seen, count, &self.edits.steps, &mut writer)?;
+        write_report(alloc, seen, count, self.edits, &mut writer)?;
         writer.flush()?;
         writer.get_ref().sync_all()
     }
