@@ -33,7 +33,10 @@ def is_same(one, other):
 
 def check_paths(options, names):
     """Refuses paths that can't be read or written, before anything is read."""
-    for it in (options.input, options.edits, options.model, options.list):
+    made = options.list if options.detector else None
+    if made is not None and not options.force and (os.path.isfile(made) or os.path.isdir(made) and os.listdir(made)):
+        raise Failure(f"{made} is there already, and the detector would write it: --force uses it")
+    for it in (options.input, options.edits, options.model, options.list if made is None else None):
         if it is not None and not os.path.exists(it):
             raise Failure(f"{it} isn't there")
         if it is not None and not os.access(it, os.R_OK):

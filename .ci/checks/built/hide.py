@@ -21,6 +21,37 @@ sys.path.insert(0, str(pathlib.Path(__file__).resolve().parents[2]))
 from checking import ROOT, Cases, both_builds
 from hiding import DETECTOR, ENTRY, FRAMES, HEIGHT, SQUARE, WIDTH, Place, all_of, bared, black, children, ffmpeg, frames_of, is_hidden, left, video
 
+# A FaceDetectorYN that finds what is white, under the names of OpenCV. It fails where the picture isn't grey and white.
+MODEL = """
+import numpy
+__version__, COLOR_YUV2BGR_I420, error = "4.6.0", 1, ValueError
+
+
+def setNumThreads(count):
+    pass
+
+
+def cvtColor(cells, kind):
+    high = cells.shape[0] * 2 // 3
+    assert abs(int(cells[high:].mean()) - 128) < 4
+    return cells[:high, :, None].repeat(3, 2)
+
+
+class FaceDetectorYN:
+    @staticmethod
+    def create(file, config, size, score):
+        assert open(file).read() == "a model" and score == 0.6
+        return FaceDetectorYN()
+
+    def setInputSize(self, size):
+        self.size = size
+
+    def detect(self, picture):
+        assert picture.shape == (self.size[1], self.size[0], 3)
+        rows, columns = numpy.where(picture[:, :, 0] > 190)
+        box = [columns.min() - 1.5, rows.min() - 1.5, numpy.ptp(columns) + 4, numpy.ptp(rows) + 4] if len(rows) else None
+        return 1, numpy.array([[*box, *[0] * 10, 0.9]], numpy.float32) if box else None
+"""
 FILES = ["in.mp4", "out.boxes.txt", "out.covers.csv", "out.mp4"]
 
 
@@ -172,8 +203,6 @@ def by_forms(cases, place):
     folder = place.sub("forms")
     for form, more in (("corners", []), ("mot", []), ("kitti", ["--first-frame", "0"]), ("centres", []), ("yolo labels", ["--list", "labels"])):
         words = ["in.mp4", f"{form[:4]}.mp4", "--detector", f"{place.detector} {form}", "--sheet", "0", *more]
-        if "--list" in more:
-            (folder / "labels").mkdir()
         done = place.run(folder, *words, fake=False)
         cases.count(f"a detector's list: {form}", done.returncode == 0 and is_hidden(folder, f"{form[:4]}.mp4"), done.stderr)
     (folder / "mine.csv").write_text("".join(f"{it},{(it - 1) * 2},{HEIGHT // 3},{SQUARE},{SQUARE}\n" for it in range(1, FRAMES + 1)))
@@ -199,7 +228,10 @@ def by_hand(cases, place):
     cases.count("a detector that misses the square leaves it visible", done.returncode == 0 and (frames, bare) == (FRAMES, FRAMES // 2), f"{bare} {done.stderr}")
     due = f"{FRAMES // 2} without a box, the longest stretch 00:00:00.500..00:00:01.000 ({FRAMES // 2} frames). Look at out.sheet.png"
     cases.count("the last line says so, with times", due in done.stderr.splitlines()[-1], done.stderr)
-    cases.count("the sheet is there", (folder / "out.sheet.png").read_bytes()[:4] == b"\x89PNG")
+    marks = "from PIL import Image; print(sum(it == (255, 220, 0) for it in Image.open('out.sheet.png').convert('RGB').getdata()))"
+    counts = [subprocess.run([it, "-c", marks], cwd=folder, capture_output=True, text=True).stdout.strip() for it in (sys.executable, "/usr/bin/python3")]
+    # (two marks along the top and one along the left side of each, of ten pixels and of five)
+    cases.count("the sheet has marks at the frames without a box", any(it.isdigit() and FRAMES // 2 * 20 <= int(it) <= FRAMES // 2 * 40 for it in counts), str(counts))
     listed = (folder / "out.boxes.txt").read_bytes()
     line = f"{FRAMES // 2}..{FRAMES} cover 0,{HEIGHT // 3},{WIDTH},{SQUARE}"
     done = place.run(folder, "in.mp4", "out.mp4", "--again", "--hold", "0", "--also", line, "--sheet", "0", fake=False)
@@ -327,6 +359,15 @@ def by_progress(cases, place):
     cases.count("a line each ten seconds says how many frames are done of how many, and what is left", len(re.findall(rf"(?m)^detecting: \d+ of {FRAMES} frames, [\d.]+ a second, \d+ s left$", done.stderr)) == 1, done.stderr)
 
 
+def by_model(cases, place):
+    """--model hands FaceDetectorYN pictures in colour, and takes its boxes: here it is one that finds the square."""
+    folder = place.sub("model")
+    (folder / "cv2.py").write_text(MODEL)
+    (folder / "m.onnx").write_text("a model")
+    done = place.run(folder, "in.mp4", "out.mp4", "--model", "m.onnx", "--sheet", "0", "--every", "1", "--hold", "1", fake=False, env=place.env | {"PYTHONPATH": str(folder)})
+    cases.count("--model finds the square in colours, and hides it", done.returncode == 0 and is_hidden(folder, "out.mp4"), done.stderr)
+
+
 def by_real(cases, place):
     """OpenCV's own detectors find a drawn face, all cores alike, and the sheet shows it."""
     folder = place.sub("real")
@@ -361,7 +402,7 @@ def main():
         with tempfile.TemporaryDirectory() as folder:
             place = Place(folder, program)
             video(folder, "in.mp4")
-            tried = (by_progress, by_real, by_words, by_signals, by_names, by_forms, by_sizes, by_hand, by_covers, by_cut, by_missing, by_plain, by_terminal, by_record, by_room)
+            tried = (by_progress, by_real, by_model, by_words, by_signals, by_names, by_forms, by_sizes, by_hand, by_covers, by_cut, by_missing, by_plain, by_terminal, by_record, by_room)
             all_of(cases, [lambda it=it: it(cases, place) for it in tried])
     return cases.end()
 
