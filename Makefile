@@ -5,7 +5,7 @@
 # make test [SETUP=no]     runs every test, proves and builds the product, and tries all that was built. It first does what `make setup` does
 #                          for it, where it may
 # make gate [BUGS=..]      everything from nothing: also the proofs of the tests, both builds, and the planted bugs. BUGS=changed: those
-#                          that a change affects; BUGS=landing: those since the last release, and a tenth of the others
+#                          that a change affects. BUGS=landing goes on over what `make test` cached, as .ci/run does
 # make times [TIMES=..]    seconds of proof a function; TIMES: options of tools/times.py, as the names of crates, or --waits
 #
 # make frames              proves and builds both programs: crates/imgref_frames/out/imgref_frames is for video and pictures
@@ -22,8 +22,8 @@
 # SCRIPT=- takes the script from standard input. With DESTDIR=.., make install puts its files below that folder.
 
 # (an older Python can't read all tools)
-ifneq ($(shell python3 -c 'import sys; print(sys.version_info >= (3, 10))' 2>&1),True)
-$(error Python 3.10 or later is needed as `python3`, and here it is: $(shell python3 --version 2>&1))
+ifneq ($(shell { python3 -c 'import sys; print(sys.version_info >= (3, 10))'; } 2>&1 || :),True)
+$(error Python 3.10 or later is needed as `python3`, and here it is: $(shell { python3 --version; } 2>&1 || :))
 endif
 
 SCRIPT ?= examples/first.script

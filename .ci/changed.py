@@ -1,31 +1,44 @@
 """Which planted bugs a change can have affected since a commit.
 
-A bug is affected where one of these is not in the old tree with the same text: the bug itself, its function with its contract, the
-function's proof files, the contract of a function that it calls, or a definition or lemma that one of these cites. Texts are
-compared and not paths, so what only moved to another file or crate hasn't changed. Functions and definitions are told by their
-names alone, so more bugs are taken than need be where two have one name.
+The check of a bug reads its function, the function's proof files, the contracts of what the function calls, and the definitions,
+lemmas and types that one of these cites. A bug is affected where one of these, or the bug itself, has no equal in the old tree.
+Texts are compared and not paths, so what only moved to another file or crate hasn't changed. A name is followed by its import: to
+the module that has it, also where another module passes it on. Only a method is told by its name alone, since no text says its
+type. Another kit affects all.
 """
+import collections
+import dataclasses
+import functools
 import hashlib
 import re
 import tarfile
 import tempfile
 
-from functions import function_names
+from functions import function_names, proof_folder
 from processes import run_to_end
-from workspace import ROOT, own_sources, with_those_below
+from workspace import ROOT, crates, own_sources, with_those_below
 
-# The commit of the last release, from which CI counts.
-RELEASED = ROOT / ".ci/last_release"
-# Of the bugs that no change affects, CI tries one in so many.
-DRAWN = 10
+# The last commit that had landed when the work began, and the kit that proved it.
+LANDED = ROOT / ".ci/last_landed"
+# Of the bugs of public functions that no change affects, CI tries one in so many.
+DRAWN = 20
 WORDS = re.compile(r"[^\s(){}\[\],.;:`<>&|!?=]+")
-CALLED = re.compile(r"\b(\w+)(?:::<[^;(]*>)?\(")
+# What is called: a path before the name, or the point of a method.
+CALLED = re.compile(r"(\.|\b(?:\w+::)+|\b)(\w+)(?:::<[^;(]*>)?\(")
 # The first words of a definition, before its name.
-OPENS = re.compile(r"(?:(?:pub|abbrev|record|data|law|opaque|instance|theorem) )*(\S+)")
+OPENS = re.compile(r"(?:(?:pub|abbrev|record|data|law|opaque|instance|theorem|ruleset) )*(\S+)")
+# Imports of names, and of whole modules under another name.
+IMPORTED = re.compile(r"(?m)^ *(pub )?(?:ghost )?use ([\w.]+)\.\{([^}]*)\}")
+RENAMED = re.compile(r"(?m)^ *(?:pub )?(?:ghost )?use ([\w.]+?)(?: as (\w+))?;?$")
+RUST_USE = re.compile(r"(?m)^ *(?:pub )?use ([\w:]+?)::(?:(\w+)|\{([^}]*)\});")
+# A type, a constant or a trait of a source file, up to the line that ends it.
+ITEM = re.compile(r"(?ms)^(?:pub(?:\(\w+\))? )?(?:struct|enum|trait|type|const|union) (\w+).*?(?:^\}|;$)")
 # Proof files of one function, which nothing else cites.
 OF_ONE_FUNCTION = ("Answers.antt", "Invariants.antt", "Proof.antt")
-COMMENT = re.compile(r"(?m)^ *//.*$|^--.*$")
+# (a line of an edit that names a stale answer says nothing of the bug)
+COMMENT = re.compile(r"(?m)^ *//.*$|^--.*$|^stale: .*\n?")
 BODY = re.compile(r"(?m)^ *\{$|\{$")
+IS_PUBLIC = re.compile(r"(?m)^ *pub (?:const )?(?:unsafe )?(?:extern \"C\" )?fn ")
 
 
 def git(*words):
@@ -34,24 +47,24 @@ def git(*words):
     return ran.stdout if ran.returncode == 0 else None
 
 
-def last_landed():
-    """The last commit that is on origin/main, else HEAD."""
-    return "origin/main" if git("rev-parse", "--verify", "-q", "origin/main") else "HEAD"
+@functools.cache
+def words_of(text):
+    """The words of a text without its comments."""
+    return frozenset(WORDS.findall(COMMENT.sub("", text)))
 
 
 def plain(text):
-    """A text in which a module has the same name in each crate."""
-    return re.sub(r"\bRattle\.\w+\.", "Rattle.", text)
+    """A text without comments, in which a module has the same name in each crate."""
+    return re.sub(r"\bRattle\.\w+\.", "Rattle.", COMMENT.sub("", text))
 
 
-def old_texts(commit):
-    """The texts of the crates at a commit, or None where the history doesn't reach it."""
+def old_files(commit):
+    """The texts of the crates at a commit by their paths, or None where the history doesn't reach it."""
     with tempfile.NamedTemporaryFile(suffix=".tar") as file:
         if git("archive", "-o", file.name, commit, "crates") is None:
             return None
         with tarfile.open(file.name) as tar:
-            names = [it for it in tar if it.isfile() and it.name.endswith((".rt", ".antt", ".edit"))]
-            return [plain(tar.extractfile(it).read().decode()) for it in names]
+            return {it.name: tar.extractfile(it).read().decode() for it in tar if it.isfile() and it.name.endswith((".rt", ".antt", ".edit"))}
 
 
 def definitions(text):
@@ -62,13 +75,12 @@ def definitions(text):
             yield found[1], "\n".join(lines)
 
 
+@functools.lru_cache(maxsize=4096)
 def functions_of(text):
     """The functions of a source file: the name of each and its text up to the next one."""
-    heads = function_names(text)
-    lines = text.split("\n")
-    for number, (at, name) in enumerate(heads):
-        end = heads[number + 1][0] if number + 1 < len(heads) else len(lines)
-        yield name, "\n".join(lines[at:end])
+    heads, lines = function_names(text), text.split("\n")
+    ends = [*(at for at, _ in heads[1:]), len(lines)]
+    return [(name, "\n".join(lines[at:end])) for (at, name), end in zip(heads, ends)]
 
 
 def contract(text):
@@ -77,81 +89,207 @@ def contract(text):
     return text[: body.start()] if body else text
 
 
+def parts_of(name, text):
+    """The texts of a file that may be the same elsewhere: each with its name."""
+    if name.endswith(".antt"):
+        yield from definitions(text)
+    if name.endswith(".rt"):
+        yield from ((found[1], found[0]) for found in ITEM.finditer(text))
+        for function, whole in functions_of(text):
+            yield from ((function, whole), (function, contract(whole)))
+    yield "", text
+
+
+@dataclasses.dataclass
+class File:
+    """A file of a crate, what it imports, and what it defines."""
+
+    crate: str
+    module: str
+    text: str
+    is_proof: bool
+    # By the name here: the module and the name there. By the name of a module here: that module.
+    imports: dict = dataclasses.field(default_factory=dict)
+    modules: dict = dataclasses.field(default_factory=dict)
+    # By the name that Rust code has for it: the crate that it is from.
+    rust: dict = dataclasses.field(default_factory=dict)
+
+    def __post_init__(self):
+        for _, module, names in IMPORTED.findall(self.text):
+            for it in names.split(","):
+                there, _, here = it.strip().partition(" as ")
+                self.imports[here.strip() or there] = (module, there)
+        for module, name in RENAMED.findall(self.text):
+            self.modules[name or module.rpartition(".")[2]] = module
+        for path, one, several in RUST_USE.findall(self.text):
+            first = path.split("::")[0]
+            for it in (one or several).split(","):
+                self.rust[it.strip().rpartition(" ")[2]] = self.crate if first in ("crate", "self", "super") else first
+
+
+@dataclasses.dataclass(frozen=True)
+class Contract:
+    """The contract of a function: its crate, the stem of its file, its name, and whether it is a method."""
+
+    crate: str
+    stem: str
+    name: str
+    is_method: bool
+
+
+class Tree:
+    """The crates as they are now: what each file defines, and what of that is new beside an old tree or cites something new."""
+
+    def __init__(self, old):
+        self.old = {(name, plain(part)) for path, text in old.items() for name, part in parts_of(path, text)}
+        self.files = {}
+        for crate in crates():
+            for at in own_sources(crate):
+                inside = at.relative_to(ROOT / "crates" / crate).with_suffix("").as_posix()
+                text = at.read_text(encoding="utf-8")
+                self.files[at] = File(crate, f"Rattle.{crate}.{inside.replace('/', '.')}", text, at.name in OF_ONE_FUNCTION)
+        self.proofs = collections.defaultdict(list)
+        for at, file in self.files.items():
+            if file.is_proof:
+                self.proofs[file.crate].append((at, file))
+        self.by_module = {it.module: it for it in self.files.values()}
+        self.defined = {it.module: {name for name, _ in definitions(it.text)} for at, it in self.files.items() if at.suffix == ".antt"}
+        self.find_new()
+
+    def is_old(self, name, text):
+        return (name, plain(text)) in self.old
+
+    def find_new(self):
+        """What is new: definitions by module and name, types and functions with a new contract by crate and name, and these contracts."""
+        self.new, self.contracts, cited = set(), set(), []
+        for at, file in self.files.items():
+            if at.suffix == ".antt" and not file.is_proof:
+                for name, text in definitions(file.text):
+                    if not self.is_old(name, text):
+                        self.new.add((file.module, name))
+                    elif "specs" in at.parts:
+                        # (only a definition changes what another one means: what cites a lemma means what it did)
+                        cited.append(((file.module, name), None, file, text))
+            elif at.suffix == ".rt":
+                self.new |= {(file.crate, found[1]) for found in ITEM.finditer(file.text) if not self.is_old(found[1], found[0])}
+                for name, text in functions_of(file.text):
+                    told = contract(text)
+                    made = Contract(file.crate, at.stem, name, "self" in told.partition(")")[0])
+                    if self.is_old(name, told):
+                        cited.append(((file.crate, f"fn {name}"), made, file, told))
+                    else:
+                        self.contracts.add(made)
+        self.new |= {(it.crate, f"fn {it.name}") for it in self.contracts}
+        while more := [it for it in cited if (it[1] not in self.contracts if it[1] else it[0] not in self.new) and self.cites_new(it[3], it[2])]:
+            self.new |= {key for key, *_ in more}
+            self.contracts |= {made for _, made, *_ in more if made}
+
+    @functools.lru_cache(maxsize=None)
+    def followed(self, module, name):
+        """Where a name comes from that a module has or passes on: its module and its name there."""
+        file = self.by_module.get(module)
+        if file and name not in self.defined.get(module, ()) and name in file.imports and file.imports[name] != (module, name):
+            return self.followed(*file.imports[name])
+        return module, name
+
+    def is_new_in(self, module, name):
+        """Whether a name of a module is new. A generated module is told by the types and functions of its crate that its path names."""
+        module, name = self.followed(module, name)
+        if (module, name) in self.new:
+            return True
+        _, crate, *path = [*module.split("."), "", ""]
+        return module not in self.by_module and any((crate, it) in self.new or (crate, f"fn {it}") in self.new for it in [*path, name])
+
+    def cites_new(self, text, file):
+        """Whether a text of a file cites a definition, a lemma or a type that is new."""
+        words = words_of(text)
+        if any((file.module, it) in self.new or (file.rust.get(it, file.crate), it) in self.new for it in words):
+            return True
+        if any(self.is_new_in(*file.imports[it]) for it in words if it in file.imports):
+            return True
+        return any(self.is_new_in(file.modules[it], name) for it in words if it in file.modules for name in words)
+
+    def calls_new(self, text, file, stem):
+        """Whether the text of a function, in a file of that stem, has a call of one whose contract is new."""
+        return any(self.may_be_called(it, path, file, stem) for path, name in CALLED.findall(text) for it in self.contracts if it.name == name)
+
+    def may_be_called(self, made, path, file, stem):
+        """Whether a call with such a path before its name, in a file, may be one of the function with this contract."""
+        below = {*with_those_below(file.crate)}
+        if made.crate not in below or path == ".":
+            return made.crate in below and made.is_method
+        first, *rest = path.removesuffix("::").split("::")
+        crate = first if first in below else file.rust.get(first or made.name, file.crate)
+        if crate != file.crate:
+            # (a library passes on functions of those below it)
+            return crate in below and made.crate in with_those_below(crate)
+        last = (rest or [first])[-1]
+        module = stem if not path and made.name not in file.rust else last if last[:1].islower() and last not in ("crate", "self", "super") else made.stem
+        return made.crate == crate and made.stem in (module, "mod", "lib")
+
+
 class Changes:
-    """What differs from a commit. `unknown` says that the history doesn't reach it."""
+    """What differs from the texts of an old tree, by their paths."""
 
-    def __init__(self, commit):
-        old = old_texts(commit)
-        self.unknown = old is None
-        if not self.unknown:
-            self.old, self.all, self.reached = {*old}, "\n".join(old), {}
-
-    def of(self, name):
-        """What is new in a crate and in those below it, which are all that its functions can cite or call."""
-        if name not in self.reached:
-            self.reached[name] = New(self, with_those_below(name))
-        return self.reached[name]
+    def __init__(self, old):
+        self.tree = Tree(old)
 
     def affects(self, bug):
         """Whether a bug, its function, what proves it, or what its function cites or calls differs."""
-        crate = bug.path.parent.parent
-        if plain(bug.path.read_text(encoding="utf-8")) not in self.old or None in bug.functions:
+        tree, crate = self.tree, bug.path.parent.parent
+        if not tree.is_old("", bug.path.read_text(encoding="utf-8")) or None in bug.functions:
             return True
-        new = self.of(crate.name)
-        for file, function in bug.functions:
-            text = plain(function.text((crate / file).read_text(encoding="utf-8")))
-            if text not in self.all or new.is_cited(text) or {*CALLED.findall(text)} & new.contracts:
+        for at, function in bug.functions:
+            file = tree.files[crate / at]
+            text = [it for name, it in functions_of(file.text) if name == function.name][function.number]
+            if not tree.is_old(function.name, text) or tree.cites_new(text, file) or tree.calls_new(text, file, (crate / at).stem):
                 return True
-            proofs = [plain(it.read_text(encoding="utf-8")) for it in (crate / "proofs").rglob("*.antt") if function.name in it.parent.parts]
-            if any(it not in self.old or new.is_cited(it) for it in proofs):
+            if any(not tree.is_old("", it.text) or tree.cites_new(it.text, it) for it in self.proofs(crate, at, function)):
                 return True
         return False
 
-
-class New:
-    """The definitions, lemmas and contracts of some crates that are new, or cite one that is: the names of each."""
-
-    def __init__(self, changes, names):
-        texts = {it: plain(it.read_text(encoding="utf-8")) for name in names for it in own_sources(name)}
-        # (only a definition changes what another one means: what cites a lemma means what it did)
-        specs, lemmas = [], []
-        for at, text in texts.items():
-            if at.suffix == ".antt" and at.name not in OF_ONE_FUNCTION:
-                kind = specs if "specs" in at.parts else lemmas
-                kind += [(name, {*WORDS.findall(it)}, it in changes.all) for name, it in definitions(text)]
-        self.words = closed(specs) | {name for name, _, is_old in lemmas if not is_old}
-        contracts = [(name, contract(it)) for at, text in texts.items() if at.suffix == ".rt" for name, it in functions_of(text)]
-        self.contracts = {name for name, it in contracts if it not in changes.all or self.is_cited(it)}
-
-    def is_cited(self, text):
-        """Whether a text has the name of a definition or lemma that is new."""
-        return bool({*WORDS.findall(COMMENT.sub("", text))} & self.words)
+    def proofs(self, crate, at, function):
+        """The proof files of a function. Where its folder can't be told, those of all functions of its name."""
+        folder = proof_folder(crate, at, function)
+        if folder:
+            yield from (self.tree.files[it] for it in folder.rglob("*.antt"))
+        elif folder is False:
+            yield from (it for path, it in self.tree.proofs[crate.name] if function.name in path.parent.parts)
 
 
-def closed(cited):
-    """The names of the definitions that are new, and of those that cite one."""
-    found = {name for name, _, is_old in cited if not is_old}
-    while more := {name for name, words, _ in cited if name not in found and words & found}:
-        found |= more
-    return found
+def last_landed():
+    """The commit that had landed last, and whether the kit here has the logic that proved it. Exits where that is no ancestor of this
+    commit."""
+    commit, logic = LANDED.read_text(encoding="utf-8").split()
+    if git("rev-parse", "--verify", "-q", "HEAD") and git("merge-base", "--is-ancestor", commit, "HEAD") is None:
+        raise SystemExit(f"{LANDED.relative_to(ROOT)} names {commit}, which this commit doesn't follow: write there the last one that had landed when the work began")
+    return commit, run_to_end(["rt", "version"]).stdout.split()[-1:] == [logic]
 
 
 def affected(bugs, commit):
     """Those of the bugs that differ from a commit (without one from the last that landed) in something that they show."""
-    commit = commit or last_landed()
-    changes = Changes(commit)
-    if changes.unknown:
-        print(f"all planted bugs: the history doesn't reach {commit}", flush=True)
+    landed, is_same_kit = last_landed()
+    old = old_files(commit or landed)
+    if old is None or not is_same_kit:
+        print(f"all planted bugs: {'the kit is another one' if old else 'the history lacks the commit'}, beside {commit or landed}", flush=True)
         return bugs
-    print(f"only the planted bugs that a difference from {commit} affects", flush=True)
+    changes = Changes(old)
+    print(f"only the planted bugs that a difference from {commit or landed} affects", flush=True)
     return {name: kept for name, found in bugs.items() if (kept := [it for it in found if changes.affects(it)])}
 
 
+def is_public(bug):
+    """Whether a bug changes a public function."""
+    crate = bug.path.parent.parent
+    return any(it and IS_PUBLIC.search(it[1].text((crate / it[0]).read_text(encoding="utf-8"))) for it in bug.functions)
+
+
 def for_landing(bugs):
-    """Those that a change since the last release affects, and one in ten of the others, drawn by the number of this commit."""
-    chosen = affected(bugs, RELEASED.read_text(encoding="utf-8").split()[0])
+    """Those that a change since the last landing affects, and one in twenty of the other public functions' ones, drawn by the number of
+    this commit."""
+    chosen = affected(bugs, "")
     head = (git("rev-parse", "HEAD") or "").strip()
-    is_drawn = lambda it: int(hashlib.sha256(f"{head} {it.name}".encode()).hexdigest(), 16) % DRAWN == 0
+    is_drawn = lambda it: int(hashlib.sha256(f"{head} {it.name}".encode()).hexdigest(), 16) % DRAWN == 0 and is_public(it)
     drawn = {name: [it for it in found if it in chosen.get(name, []) or is_drawn(it)] for name, found in bugs.items()}
     count = lambda found: sum(map(len, found.values()))
     print(f"{count(chosen)} planted bugs are affected, {count(drawn) - count(chosen)} of the others are drawn, of {count(bugs)} in all", flush=True)

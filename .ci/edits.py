@@ -157,6 +157,20 @@ def edits_of(words):
     return edits
 
 
+def may_meet(one, other):
+    """Whether two edits may be for one frame. Numbers of frames and times may."""
+    if isinstance(one[0], Time) != isinstance(other[0], Time):
+        return True
+    return all(last is None or first < last for first, last in ((one[0], other[1]), (other[0], one[1])))
+
+
+def late_pairs(edits):
+    """The numbers, from 1, of each edit that may show pixels and of a later one that hides some in the same frame: first those with a cover or a fill."""
+    spoilt = ({it: ("cover", "fill") for it in ("move", "mosaic", "means", "blur")}, {"move": ("mosaic", "means"), "means": ("mosaic",), "blur": ("mosaic",)})
+    numbers = range(len(edits))
+    return [(one + 1, other + 1) for kind in spoilt for one in numbers for other in numbers[one + 1:] if edits[other][2] in kind.get(edits[one][2], ()) and may_meet(edits[one], edits[other])]
+
+
 def numbered(edit, rate):
     """An edit with numbers of frames in the place of times. Frame n is at n / rate seconds."""
     if not isinstance(edit[0], Time):

@@ -4,9 +4,11 @@
     gate.py test                    what a person runs: every test run with each access checked, the product proved, and all that
                                     can be tried on one build of it. It first installs what the tests need, where it may
                                     (tools/setup.py); with SETUP=no it installs nothing
-    gate.py gate [BUGS=..]          everything from nothing: also the proofs of all tests, both builds, and the planted bugs
-                                    (with BUGS=changed only those that a difference from the last landed commit affects; with
-                                    BUGS=landing those that one from the last release affects, and a tenth of the others)
+    gate.py gate [BUGS=..]          everything from nothing: also the proofs of all tests, both builds, and the planted bugs (with
+                                    BUGS=changed only those that a difference from the last landed commit affects)
+    gate.py gate BUGS=landing       what .ci/run adds to `test`, over the proofs that it cached: the other crates and all tests
+                                    proved, the second build, the planted bugs that a difference from the last landed commit
+                                    affects, and one in twenty of the other public functions' ones
     gate.py check [CRATE=name]      proofs and tests of what has changed, over cached proofs: no planted bug is tried. With CRATE
                                     only of that crate and of what it depends on; it may also be the folder of a crate elsewhere
 
@@ -14,9 +16,10 @@ Each part ends with 'N passed, N failed, N skipped'. All that it said is in the 
 come a table of the parts, what was skipped and for want of what, and then a line that adds them up. TERM, HUP and Ctrl-C end all
 parts.
 
-`rt ci` works on a copy of the repository without the planted bugs, so that it proves everything from nothing. The planted bugs
-are tried beside it, many in one check (planted_bugs.py). A check over the same cached proofs that `test` has passed on these very
-files isn't run again by `gate`, and a line says so.
+`make gate` and `make gate BUGS=changed` prove everything from nothing by `rt ci --anew`, on a copy of the repository without the
+planted bugs. These are tried beside it, many in one check (planted_bugs.py). In .ci/run each crate is proved once: in a new clone
+`test` begins with nothing, and BUGS=landing goes on with what it cached (proofs.py). A check that `test` has passed on these very
+files isn't run again, and a line says so.
 """
 import contextlib
 import dataclasses
@@ -43,8 +46,10 @@ CHECKS = ROOT / ".ci/checks"
 # These need the proofs of tests or a program that is only measured, or prove crates again with a change: they run in the gate
 # alone.
 GATE_ALONE = (
-    "always_memory.py", "retried_calls.py", "refused_growths.py", "instructions.py", "strides.py", "layers.py", "row_mover_privacy.py", "release.py",
+    "always_memory.py", "retried_calls.py", "refused_growths.py", "instructions.py", "strides.py", "layers.py", "row_mover_privacy.py", "release.py", "second_build.py",
 )  # fmt: skip
+# By this word the planted bugs are those of a landing.
+LANDING = "--landing"
 # This one makes a release over cached proofs, so the gate runs it in the repository.
 RELEASE = "release.py"
 # These time calls or the page, so they come last, with nothing beside them.
@@ -52,7 +57,7 @@ TIMED = ("bindings.py", "web.py")
 # The crates that `test` proves, with those below them: the programs and the library for C.
 PRODUCT = ("imgref_run", "imgref_frames", "imgref_c")
 # What each takes from nothing on four processors, in minutes.
-MINUTES = {"test": 15, "gate": 90, "check": 15}
+MINUTES = {"test": 45, "gate": 90, "check": 45}
 # What is shown of a long part while it goes on: each proof that has ended, and what failed.
 ENDED = re.compile(r"== (\w+(?:: its tests)?)$")
 # Proof progress, of which a line is shown now and then.
@@ -177,6 +182,8 @@ def cached_checks(without=()):
 
 def sum_of_files():
     """The sum of all files that git has or would take, and of the kit's version. Nothing where git doesn't list them."""
+    if not shutil.which("git"):
+        return None
     listed = run_to_end(["git", "-C", ROOT, "ls-files", "-z", "--cached", "--others", "--exclude-standard"])
     if listed.returncode:
         return None
@@ -250,15 +257,36 @@ def test(parts, _):
 
 
 def gate(parts, only):
-    """Runs everything from nothing."""
+    """Runs everything from nothing, or what a landing adds to the tests."""
+    (landing if LANDING in only else from_nothing)(parts, only)
+
+
+def planted(only):
+    """The part that tries planted bugs."""
+    return Part("planted bugs", [sys.executable, str(ROOT / ".ci/planted_bugs.py"), *only], nice=0)
+
+
+def landing(parts, only):
+    """Runs what `test` doesn't, over the proofs that it cached."""
+    proofs = Part("proofs", [sys.executable, str(ROOT / ".ci/proofs.py")], proofs=sum(1 + says(it, "#[test]") for it in crates()), nice=0)
+    tested = not_tested(CHECKS, CHECKS / "built", CHECKS / "proofs")
+    built = scripts(CHECKS / "built", words=[ONE_BUILD], without=(RELEASE, *tested))
+    release = Part(RELEASE, [sys.executable, str(CHECKS / "built" / RELEASE)])
+    bugs, (cached, timed), beside = planted(only), cached_checks(without=tested), scripts(CHECKS, without=tested)
+    parts += [proofs, *built, bugs, *cached, release, *beside, *timed]
+    side_by_side([[proofs, [[bugs], [*cached, release], *([it] for it in built)]], beside])
+    side_by_side([timed])
+
+
+def from_nothing(parts, only):
+    """Runs everything, and proves all of it anew."""
     with copied() as top:
-        of_ci = Part("rt ci", ["rt", "ci"], top, proofs=sum(1 + says(it, "#[test]") for it in crates()), nice=0)
+        of_ci = Part("rt ci", ["rt", "ci", "--anew"], top, proofs=sum(1 + says(it, "#[test]") for it in crates()), nice=0)
         # (these run in the copy, where `rt ci` left the programs)
         built = scripts(CHECKS / "built", top, without=(RELEASE,))
         release = Part(RELEASE, [sys.executable, str(CHECKS / "built" / RELEASE)])
         proofs = Part("cached proofs", building(*(it for it in crates() if (ROOT / "crates" / it / "must-fail").is_dir())), counts=False, nice=0)
-        bugs = Part("planted bugs", [sys.executable, str(ROOT / ".ci/planted_bugs.py"), *only], nice=0)
-        tested = not_tested(CHECKS, CHECKS / "proofs")
+        bugs, tested = planted(only), not_tested(CHECKS, CHECKS / "proofs")
         (cached, timed), beside = cached_checks(without=tested), scripts(CHECKS, without=tested)
         parts += [of_ci, *built, proofs, bugs, *cached, release, *beside, *timed]
         side_by_side([[of_ci, [[it] for it in built]], [proofs, [[bugs], [*cached, release]]], beside])
@@ -301,7 +329,7 @@ WAYS = {"test": test, "gate": gate, "check": check}
 
 
 def main(words):
-    only = {"": [], "changed": ["--changed"], "landing": ["--landing"]}.get(os.environ.get("BUGS", ""))
+    only = {"": [], "changed": ["--changed"], "landing": [LANDING]}.get(os.environ.get("BUGS", ""))
     if len(words) != 1 or words[0] not in WAYS or only is None:
         sys.exit(__doc__)
     need_rattle()
@@ -314,12 +342,8 @@ def main(words):
 @contextlib.contextmanager
 def alone(way):
     """Keeps a second run of this script out of the checkout until the end of the block: it would write the same files."""
-    try:
-        LOGS.mkdir(exist_ok=True)
-        kept = open(LOGS / "working", "a+", encoding="utf-8")
-    except OSError as why:
-        sys.exit(f"this needs a checkout that it can write into: {why}")
-    with kept:
+    LOGS.mkdir(exist_ok=True)
+    with open(LOGS / "working", "a+", encoding="utf-8") as kept:
         try:
             fcntl.flock(kept, fcntl.LOCK_EX | fcntl.LOCK_NB)
         except OSError:

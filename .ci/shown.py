@@ -22,6 +22,7 @@ import zipfile
 
 from checking import COUNT, ROOT, built
 from library import run
+from needs import needs
 from workspace import is_proved, room
 
 import c_library
@@ -38,10 +39,11 @@ CARGO = '[package]\nname = "shown"\nversion = "0.0.0"\nedition = "2021"\n[depend
 TOOLS = ("ffmpeg", "pngtopnm", "pnmtopng", "pnmdepth", "parallel")
 # The blocks that aren't run here as they are: a page, how they begin, and what tries them, or why nothing does.
 OTHERS = [
+    ("README.md", "make try ", "fresh_machine.py: the picture of `make try`. The gate runs `make test`"),
     ("README.md", "make python ", "proofs/bindings.py"),
     ("README.md", "rt new ", "run_filter"),
     ("README.md", "#![tactic", "run_filter"),
-    ("CONTRIBUTING.md", "apt-get ", "nothing: it changes the machine"),
+    ("CONTRIBUTING.md", "sudo apt-get ", "fresh_machine.py: it takes what tools/needs.txt lists"),
     ("docs/ARCHITECTURE.md", "programs ", "nothing: it is a map"),
     ("docs/C.md", "make c ", "proofs/c_library.py"),
     ("docs/CALLERS.md", "//! Three functions", "run_filter"),
@@ -108,7 +110,7 @@ def language(block):
         return "Python"
     if "imgref_proved::" in block:
         return "Rust"
-    if "imgref.hpp" in block or "imgref::view" in block:
+    if "imgref.hpp" in block or "imgref::" in block:
         return "C++"
     if "#include <imgref.h>" in block:
         return "C"
@@ -136,7 +138,8 @@ def run_python(cases, pages, folder):
         needs_numpy = "numpy" in "".join(it for it in blocks(page) if it.startswith(">>> "))
         python = numpy_python(needs_numpy)
         if not python:
-            cases.skip(f"{page.relative_to(ROOT)}: its examples in Python", "python3-dev", *["python3-numpy"] * needs_numpy)
+            lacking = ["python3-dev", *["python3-numpy"] * needs_numpy]
+            cases.skip(f"{page.relative_to(ROOT)}: its examples in Python", *([it for it in lacking if not needs()[it].is_there()] or lacking))
             continue
         if python not in packages:
             made = folder / f"package{len(packages)}"

@@ -12,6 +12,7 @@ import sys
 from checking import ROOT, crates, says
 from processes import end_on_signals, workers
 from proving import processors, run
+from workspace import need_rattle
 
 RESULT = re.compile(r"test result: .* (\d+) passed; (\d+) failed")
 # A crate's tests have so many seconds.
@@ -27,6 +28,7 @@ def tests_of(name):
 
 
 def main(words):
+    need_rattle()
     names = words or [it for it in crates() if says(it, "#[test]")]
     size = lambda name: sum(it.stat().st_size for it in (ROOT / "crates" / name / "src").rglob("*.rt"))
     passed = failed = 0

@@ -14,10 +14,11 @@ What can't be read for sure is refused, with the file, the line and the field as
 """
 import argparse
 import csv
+import decimal
+import gc
 import pathlib
 import re
 import sys
-from fractions import Fraction
 
 # The names that a column may have in a header, in small letters and with _ between words, by what the column means.
 NAMES = {
@@ -49,6 +50,11 @@ YOLO = "-,centre_x,centre_y,width,height".split(",")
 NUMBER = re.compile(r"[+-]?(?:\d+(?:\.\d*)?|\.\d+)(?:[eE][+-]?\d{1,3})?", re.ASCII)
 # What imgref_frames reads: the greatest whole part of a number, the greatest frame, and how many digits a fraction may have.
 MOST, LAST, DIGITS = 2**32 - 1, 2**64 - 1, 20
+# Numbers of any length, with no digit lost; the last digit that is written; and a half.
+decimal.setcontext(decimal.Context(prec=decimal.MAX_PREC, Emax=decimal.MAX_EMAX, Emin=decimal.MIN_EMIN))
+UNIT, HALF = decimal.Decimal(1).scaleb(-DIGITS), decimal.Decimal("0.5")
+# So many characters of a field are printed.
+SHOWN = 80
 # The comment that says how many frames the list was made from. It goes along.
 COUNT = re.compile(r"# frames \d+")
 
@@ -57,11 +63,18 @@ class Refused(Exception):
     """What can't be read for sure, and why."""
 
 
-class Line:
-    """A line of a list: where it is, and its fields as they are there."""
+def quoted(text):
+    """A field as it is there, and of a long one its beginning."""
+    return f"'{text}'" if len(text) <= SHOWN else f"'{text[:SHOWN]}' and {len(text) - SHOWN} characters more"
 
-    def __init__(self, file, number, fields):
-        self.file, self.number, self.fields = file, number, fields
+
+class Line:
+    """A line of a list: where it is, and its fields as they are there. An empty one at its end may be left out."""
+
+    __slots__ = ("file", "number", "fields", "is_open")
+
+    def __init__(self, file, number, fields, is_open=False):
+        self.file, self.number, self.fields, self.is_open = file, number, fields, is_open
 
     def refuse(self, why, column=None):
         place = f"{self.file}, line {self.number}" + (f", column {column + 1}" if column is not None else "")
@@ -71,18 +84,20 @@ class Line:
         """The number in a column."""
         if column >= len(self.fields):
             self.refuse(f"the {name} is missing: the line has {len(self.fields)} fields", column)
-        field = self.fields[column]
-        if not NUMBER.fullmatch(field.strip()):
-            self.refuse(f"the {name} is '{field}', which is no number", column)
-        return Fraction(field.strip())
+        field = self.fields[column].strip()
+        if not NUMBER.fullmatch(field):
+            self.refuse(f"the {name} is {quoted(self.fields[column])}, which is no number", column)
+        return decimal.Decimal(field)
 
     def whole_at(self, column, name):
         """The whole number in a column, which may be written as 12.00."""
+        if column < len(self.fields) and len(self.fields[column]) < 19 and self.fields[column].isascii() and self.fields[column].isdigit():
+            return int(self.fields[column])
         found = self.number_at(column, name)
-        if found.denominator != 1:
-            self.refuse(f"the {name} is '{self.fields[column]}', which is no whole number", column)
         if abs(found) > LAST:
-            self.refuse(f"the {name} is '{self.fields[column]}', which is above {LAST}", column)
+            self.refuse(f"the {name} is {quoted(self.fields[column])}, which is above {LAST}", column)
+        if found != int(found):
+            self.refuse(f"the {name} is {quoted(self.fields[column])}, which is no whole number", column)
         return int(found)
 
 
@@ -106,20 +121,23 @@ def separator(line, asked):
         return {"comma": ",", "semicolon": ";", "tab": "\t", "space": " "}[asked]
     found = [it for it in ",;\t" if it in line.fields[0]]
     if len(found) > 1:
-        line.refuse(f"'{line.fields[0].strip()}' has several separators: say which one by --separator")
+        line.refuse(f"{quoted(line.fields[0].strip())} has several separators: say which one by --separator")
     return found[0] if found else " "
 
 
 def fields_of(line, mark):
     """The same line, with its fields."""
-    try:
-        text = line.fields[0].strip(" \r\n") if mark != " " else " ".join(line.fields[0].split())
-        fields = next(csv.reader([text], delimiter=mark, skipinitialspace=True, strict=True))
-    except csv.Error as why:
-        line.refuse(f"'{line.fields[0].strip()}': {why}")
-    if len(fields) > 1 and not fields[-1].strip():
-        fields.pop()
-    return Line(line.file, line.number, fields)
+    text = line.fields[0].strip(" \r\n") if mark != " " else " ".join(line.fields[0].split())
+    if '"' in text:
+        try:
+            fields = next(csv.reader([text], delimiter=mark, skipinitialspace=True, strict=True))
+        except csv.Error as why:
+            line.refuse(f"{quoted(line.fields[0].strip())}: {why}")
+    else:
+        # (as csv reads it, in less time)
+        fields = [it.lstrip(" ") for it in text.split(mark)] if " " in text and mark != " " else text.split(mark)
+    is_open = len(fields) > 1 and not fields[-1].strip()
+    return Line(line.file, line.number, fields[:-1] if is_open else fields, is_open)
 
 
 def lines_of(file, asked):
@@ -166,7 +184,7 @@ def columns_of(names, options, line):
         columns["score"] = int(options.score) - 1
     elif options.score:
         if options.score not in names:
-            line.refuse(f"no column has the name '{options.score}' of --score")
+            line.refuse(f"no column has the name {quoted(options.score)} of --score")
         columns["score"] = names.index(options.score)
     if options.min_score is not None and "score" not in columns:
         line.refuse("no column names the score: give its number, counted from 1, by --score")
@@ -179,7 +197,7 @@ def columns_of(names, options, line):
     forms = [it for it in FORMS if set(FORMS[it]) <= set(columns)]
     if not forms:
         line.refuse(f"its columns name no box, such as {' or '.join(','.join(it) for it in FORMS.values())}: name them by --columns")
-    columns["form"] = forms[0]
+    columns["form"], columns["numbers"] = forms[0], [(columns[it], it.replace("centre_", "centre's ")) for it in FORMS[forms[0]]]
     return columns
 
 
@@ -218,6 +236,8 @@ def read(file, options, frame=None):
     else:
         names = options.columns or guessed(lines, frame is not None)
     wrong = next((it for it in lines if len(it.fields) != count), None)
+    if wrong and wrong.is_open and len(wrong.fields) == count - 1:
+        wrong.refuse("the field is empty", count - 1)
     if wrong:
         wrong.refuse(f"{len(wrong.fields)} fields, and the first line has {count}")
     if options.columns and (len(names) > count or frame is not None and len(names) < count):
@@ -230,6 +250,8 @@ def read(file, options, frame=None):
 
 class Box:
     """A box: its line, its frame and its id, its edges, and its score where that is asked for."""
+
+    __slots__ = ("line", "frame", "name", "edges", "score")
 
     def __init__(self, line, frame, name, edges, score):
         self.line, self.frame, self.name, self.edges, self.score = line, frame, name, edges, score
@@ -244,7 +266,7 @@ def box_of(line, columns, options, frame):
     name = line.whole_at(columns["id"], "id") if "id" in columns else -1
     if abs(name) > MOST:
         line.refuse(f"the id is {name}, and at most {MOST}", columns["id"])
-    numbers = [line.number_at(columns[it], it.replace("centre_", "centre's ")) for it in FORMS[columns["form"]]]
+    numbers = [line.number_at(at, name) for at, name in columns["numbers"]]
     score = line.number_at(columns["score"], "score") if options.min_score is not None else None
     return Box(line, at - first + 1, name, edges_of(line, columns, numbers), score)
 
@@ -256,34 +278,39 @@ def edges_of(line, columns, numbers):
     if columns["form"] == "corners":
         for first, last, name in ((one, three, "right"), (two, four, "bottom")):
             if last < first:
-                line.refuse(f"the {name} is '{line.fields[columns[name]]}', which is before the box begins: are they sizes?", columns[name])
+                line.refuse(f"the {name} is {quoted(line.fields[columns[name]])}, which is before the box begins: are they sizes?", columns[name])
         return one, two, three, four
     for size, name in ((three, "width"), (four, "height")):
         if size < 0:
-            line.refuse(f"the {name} is '{line.fields[columns[name]]}', which is no size", columns[name])
+            line.refuse(f"the {name} is {quoted(line.fields[columns[name]])}, which is no size", columns[name])
     if names[0] == "centre_x":
-        one, two = one - three / 2, two - four / 2
+        one, two = one - three * HALF, two - four * HALF
     return one, two, one + three, two + four
 
 
-def decimal(value, is_up):
-    """A number in digits. One that needs too many is rounded, so that a box never loses anything."""
-    scaled = value * 10**DIGITS
-    whole = -(-scaled // 1) if is_up else scaled // 1
-    digits = f"{abs(int(whole)):0{DIGITS + 1}d}"
-    sign = "-" if whole < 0 else ""
-    return sign + f"{digits[:-DIGITS]}.{digits[-DIGITS:]}".rstrip("0").rstrip(".")
+def placed(value, way):
+    """A number as it is written, and its digits. One that needs too many is rounded, so that a box never loses anything."""
+    text = str(value)
+    if len(text) > DIGITS or "E" in text:
+        value = value.quantize(UNIT, way)
+        text = f"{value:f}"
+    if "." in text:
+        text = text.rstrip("0").rstrip(".")
+    return value, "0" if text == "-0" else text
 
 
 def written(box, size):
     """The line of a box."""
-    across, down = size or (1, 1)
-    left, top, right, bottom = (it * by for it, by in zip(box.edges, (across, down, across, down)))
-    corner = decimal(left, False), decimal(top, False)
-    sizes = decimal(right - Fraction(corner[0]), True), decimal(bottom - Fraction(corner[1]), True)
-    if max(abs(Fraction(it)) for it in (*corner, *sizes)) >= MOST + 1:
-        box.line.refuse(f"the box reaches further than {MOST}")
-    return ",".join([str(box.frame), str(box.name), *corner, *sizes])
+    left, top, right, bottom = box.edges
+    if size:
+        left, top, right, bottom = left * size[0], top * size[1], right * size[0], bottom * size[1]
+    # (a number that is far greater may have many digits, and isn't made)
+    if max(abs(left), abs(top), abs(right), abs(bottom)) < 2 * MOST + 2:
+        (left, column), (top, row) = placed(left, decimal.ROUND_FLOOR), placed(top, decimal.ROUND_FLOOR)
+        (wide, width), (high, height) = placed(right - left, decimal.ROUND_CEILING), placed(bottom - top, decimal.ROUND_CEILING)
+        if max(abs(left), abs(top), wide, high) < MOST + 1:
+            return f"{box.frame},{box.name},{column},{row},{width},{height}"
+    box.line.refuse(f"the box reaches further than {MOST}")
 
 
 def checked(boxes, size):
@@ -292,7 +319,7 @@ def checked(boxes, size):
         raise Refused(f"{boxes[0].line.file}: all boxes are within 0 to 1: give the size of the frame, as --size 1920x1080")
     wrong = next((box for box in boxes if size and not all(-1 <= it <= 2 for it in box.edges)), None)
     if wrong:
-        wrong.line.refuse(f"'{','.join(wrong.line.fields)}' isn't within 0 to 1, as --size needs it")
+        wrong.line.refuse(f"{quoted(','.join(wrong.line.fields))} isn't within 0 to 1, as --size needs it")
 
 
 def framed(files):
@@ -343,8 +370,8 @@ def names_of(text):
 
 def score_of(text):
     if not NUMBER.fullmatch(text):
-        raise argparse.ArgumentTypeError(f"'{text}' is no number")
-    return Fraction(text)
+        raise argparse.ArgumentTypeError(f"{quoted(text)} is no number")
+    return decimal.Decimal(text)
 
 
 def parsed(words):
@@ -383,6 +410,8 @@ def main(words):
 
 
 if __name__ == "__main__":
+    # (no object refers to itself: looking for such takes a third of the time)
+    gc.disable()
     try:
         main(sys.argv[1:])
     except Refused as why:

@@ -6,9 +6,10 @@
 That is the recipe of docs/FRAMES.md in one command. It writes three files: the video; out.boxes.txt, the list of what was found; and
 out.covers.csv, what was covered in each frame. Look at them by examples/review.py: a detector misses faces. With --people it covers
 the people that are found, and not the faces alone. Both times ffmpeg makes the same raw video of the input, so that the frames of the
-list are those that are covered. Where their numbers differ, there is no output.
+list are those that are covered. Where their numbers differ, there is no output. Nor is there one where the input is cut off, as
+far as examples/whole.py can tell.
 
-Needs ffmpeg, python3-opencv, opencv-data, and imgref_frames in the PATH or built by make frames.
+Needs ffmpeg and ffprobe, python3-opencv, opencv-data, and imgref_frames in the PATH or built by make frames.
 """
 import argparse
 import pathlib
@@ -16,6 +17,8 @@ import shlex
 import shutil
 import subprocess
 import sys
+
+import whole
 
 HERE = pathlib.Path(__file__).resolve().parent
 BUILT = HERE.parent / "crates/imgref_frames/out/imgref_frames"
@@ -62,6 +65,9 @@ def hide(options, program, output):
         pipe(raw, [sys.executable, detector, "-"], output=listed)
     if not any(it[:1].isdigit() for it in boxes.read_text().splitlines()):
         raise Failure("nothing was found, so nothing would be covered")
+    unknown = whole.check(options.input, whole.frames_of(boxes))
+    if unknown:
+        print(f"hide_faces: {unknown}", file=sys.stderr)
     margin = [] if options.margin is None else ["--margin", str(options.margin)]
     edit = [program, "--strict", "--boxes", boxes, "--hold", str(options.hold), *margin, "--report", covers]
     sound = ["-map", "0:v", "-map", "1:a?", "-map_metadata", "-1", "-map_chapters", "-1", "-c:a", "copy"]
@@ -77,7 +83,7 @@ def main():
     try:
         covers = hide(options, program, part)
         part.replace(output)
-    except (OSError, Failure) as why:
+    except (OSError, Failure, whole.NotWhole) as why:
         sys.exit(f"hide_faces: {why}")
     finally:
         part.unlink(missing_ok=True)

@@ -26,7 +26,7 @@ class Video:
         tagged = {it[:1]: it[1:] for it in reversed(fields)}
         if word != "YUV4MPEG2":
             raise Unreadable("it is no raw video (YUV4MPEG2): pipe it through ffmpeg -i FILE -f yuv4mpegpipe -")
-        if not all(tagged.get(it, "").isdigit() for it in "WH"):
+        if not all(tagged.get(it, "").isdigit() and int(tagged[it]) for it in "WH"):
             raise Unreadable("its line names no size")
         self.width, self.height = int(tagged["W"]), int(tagged["H"])
         self.sampling, self.bits = sampling(tagged.get("C", "420"))

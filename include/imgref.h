@@ -5,8 +5,14 @@
  * below 2^32, and the cells reach the last pixel: imgref_is_image tells. An image with no pixel may have no cell.
  *
  * A cell has 1, 2, 4 or 8 bytes: each call on cells is here for uint8_t, uint16_t, uint32_t and uint64_t. A pixel of
- * three bytes is three cells of one byte. Calls with `channels` take such pixels. For the other calls its window has three
- * times the columns.
+ * three bytes is three cells of one byte, and calls with `channels` take such pixels. The others go by single cells:
+ *
+ *   fill_window, copy_window, move_window, pack, equal and imgref_window do the same for colours where the width of the image,
+ *   and left and width of each window, are times three. fill_window gives all three cells one value.
+ *   get and put take one of the three cells: column 3 * x is the first.
+ *   Not for such colours: mosaic (mosaic_pixels is), since it gives the corner's first cell to all. flood_fill, components and
+ *   bounding_box connect and compare single cells, so channels mix. histogram and equalize count all channels as one, and
+ *   integral sums them. Copy each channel into an image of its own, or colours into cells of four bytes.
  *
  * Units     Widths, columns and left are counted in pixels, and so are heights, rows and top. Strides and lengths are
  *           counted in cells.
@@ -16,7 +22,8 @@
  *           nothing that a pointer for a result points to.
  * Padding   No call that writes changes padding, except imgref_*_pack, which moves rows over it.
  * Memory    The caller owns all memory and lends it for the call. No call keeps a pointer, allocates memory or blocks. So
- *           any number of threads may call at the same time, on memory that none of them shares.
+ *           any number of threads may call at the same time, on memory that none of them shares. Where another thread or
+ *           process changes the pixels during a call, its results are unspecified, and it writes nothing outside its buffers.
  * Overlap   What a call may write must share no byte with anything else that the same call is given. What it only reads may
  *           overlap. imgref_*_move_window goes between two windows of one image, which may overlap.
  * Pointers  No pointer may be null, even where its length is 0. Any other pointer will do there, for example that of a
@@ -35,9 +42,9 @@
 
 /* The version of this header, in three numbers and as a text. */
 #define IMGREF_VERSION_MAJOR 0
-#define IMGREF_VERSION_MINOR 3
-#define IMGREF_VERSION_PATCH 1
-#define IMGREF_VERSION "0.3.1"
+#define IMGREF_VERSION_MINOR 4
+#define IMGREF_VERSION_PATCH 0
+#define IMGREF_VERSION "0.4.0"
 
 #ifdef __cplusplus
 extern "C" {

@@ -14,8 +14,9 @@
 // double. Else it is written in braces, as {255}: the compiler refuses a constant that doesn't fit.
 // Where the compiler has C++20's consteval, a constant needs no braces.
 //
-// Calls with `channels` take colours of so many elements, next to one another in a row. The width
-// of the view has to be a multiple of `channels`, and windows and tiles are counted in colours.
+// Colours of several elements, such as RGB, have a view of their own: imgref::colours<3>(cells,
+// width, height). Its calls count in colours. A view<unsigned char> has single bytes as its pixels:
+// only calls with `channels` take colours there, and the others would mix their channels.
 //
 // Where the library refuses, a call throws imgref::refused with the status of imgref.h, and nothing
 // has changed. What the library can't see is tested here, and throws std::invalid_argument:
@@ -26,6 +27,8 @@
 
 #include <imgref.h>
 
+#include <algorithm>
+#include <array>
 #include <cstddef>
 #include <cstdint>
 #include <cstring>
@@ -43,7 +46,6 @@
 #endif
 #endif
 #if defined(__cpp_lib_mdspan) && __cpp_lib_mdspan >= 202207L
-#include <array>
 #include <mdspan>
 #define IMGREF_HAS_MDSPAN 1
 #endif
@@ -54,8 +56,20 @@ namespace imgref {
 struct rect : imgref_rect {
     constexpr rect() noexcept : imgref_rect{0, 0, 0, 0} {}
     constexpr rect(std::size_t left, std::size_t top, std::size_t width, std::size_t height) noexcept : imgref_rect{left, top, width, height} {}
+    // (of other integers: a number below 0 is refused by whatever takes the rectangle, since no image reaches it)
+    template <class A, class B, class C, class D,
+              class = std::enable_if_t<std::is_integral_v<A> && std::is_integral_v<B> && std::is_integral_v<C> && std::is_integral_v<D> && (std::is_signed_v<A> || std::is_signed_v<B> || std::is_signed_v<C> || std::is_signed_v<D>)>>
+    constexpr rect(A left, B top, C width, D height) noexcept : imgref_rect{number(left), number(top), number(width), number(height)} {}
     // (a template, since braces with three numbers would be one of these)
     template <class Window, class = std::enable_if_t<std::is_same_v<Window, imgref_rect>>> constexpr rect(const Window &other) noexcept : imgref_rect(other) {}
+
+private:
+    // A number below 0 is the largest one.
+    template <class Number> static constexpr std::size_t number(Number it) noexcept {
+        if constexpr (std::is_signed_v<Number>)
+            if (it < 0) return static_cast<std::size_t>(-1);
+        return static_cast<std::size_t>(it);
+    }
 };
 
 // The library refused, and nothing has changed.
@@ -92,6 +106,11 @@ namespace detail {
 
 inline void done(imgref_status status) {
     if (status != IMGREF_OK) throw refused(status);
+}
+
+inline void done_in_place(imgref_status status) {
+    if (status == IMGREF_SIZES_DIFFER) throw refused(status, "only a square is turned by a quarter or transposed in place: turn_into and transpose_into go to another image");
+    done(status);
 }
 
 // Whether every value of a type is one of T, as the compiler's rule for braces says.
@@ -217,6 +236,10 @@ template <class T> class view {
     using cell = typename calls::cell;
     template <class U> friend class view;
     template <class Value> using if_fits = std::enable_if_t<detail::fits<std::remove_cv_t<T>, Value>::value>;
+    template <class Value> using if_other = std::enable_if_t<std::is_arithmetic_v<Value> && !detail::fits<std::remove_cv_t<T>, Value>::value>;
+    template <class Value> static constexpr void needs_braces() {
+        static_assert(!std::is_arithmetic_v<Value>, "write a constant in braces, as fill({255}), so that the compiler tests that it fits a pixel, and cast a variable");
+    }
 
 public:
     using element_type = T;
@@ -277,12 +300,14 @@ public:
         detail::done(calls::fill_window(written(), len_, width_, height_, stride_, window, bits(pixel)));
     }
     template <class Value = value_type, class = if_fits<Value>> void fill(const Value &pixel) const { fill(whole(), pixel); }
+    // Four numbers in braces are a window whose value was forgotten: fill(whole(), {..}) gives all a pixel of four.
+    void fill(const rect &window) const = delete;
 
-    // The window, or all, gets the pixels of `source`, which has its size and shares no memory with
-    // this image.
+    // The window, or all, gets the pixels of `source`, which has its size and shares no pixel with it:
+    // it may be another window of one image.
     void copy(const rect &window, view<const value_type> source) const {
         cell *cells = written();
-        if (shares(source)) throw std::invalid_argument("the images share memory: move goes within one");
+        if (shares(source)) return copy_within(window, source);
         detail::done(calls::copy_window(cells, len_, width_, height_, stride_, window, source.cells(), source.len_, source.width_,
                                         source.height_, source.stride_));
     }
@@ -323,6 +348,13 @@ public:
     void fill(detail::constant<value_type> pixel) const { fill(whole(), pixel.value); }
     std::size_t count(const rect &window, detail::constant<value_type> value) const { return count(window, value.value); }
     std::size_t count(detail::constant<value_type> value) const { return count(whole(), value.value); }
+#else
+    // A number of another type doesn't compile, and the message says what does.
+    template <class Value, class = if_other<Value>, class = void> void put(std::size_t, std::size_t, const Value &) const { needs_braces<Value>(); }
+    template <class Value, class = if_other<Value>, class = void> void fill(const rect &, const Value &) const { needs_braces<Value>(); }
+    template <class Value, class = if_other<Value>, class = void> void fill(const Value &) const { needs_braces<Value>(); }
+    template <class Value, class = if_other<Value>, class = void> std::size_t count(const rect &, const Value &) const { return needs_braces<Value>(), 0; }
+    template <class Value, class = if_other<Value>, class = void> std::size_t count(const Value &) const { return needs_braces<Value>(), 0; }
 #endif
 
     // The same of colours of N elements, as fill_pixels has them.
@@ -406,10 +438,10 @@ public:
     // Turns or transposes this image in place. It has to be a square, unless it is turned by a half.
     // Pixels are as in turn_into.
     void turn(imgref::turn by, std::size_t channels = 1) const {
-        detail::done(calls::turn(written(), len_, pixels_of(width_, channels), height_, stride_, channels, static_cast<imgref_turn>(by)));
+        detail::done_in_place(calls::turn(written(), len_, pixels_of(width_, channels), height_, stride_, channels, static_cast<imgref_turn>(by)));
     }
     void transpose(std::size_t channels = 1) const {
-        detail::done(calls::transpose(written(), len_, pixels_of(width_, channels), height_, stride_, channels));
+        detail::done_in_place(calls::transpose(written(), len_, pixels_of(width_, channels), height_, stride_, channels));
     }
 
     // The first row of the window, or of all, changes places with the last, and so on. Only a window
@@ -489,6 +521,29 @@ private:
         return len_ && other.len_ && before(pixels_, other.pixels_ + other.len_) && before(other.pixels_, pixels_ + len_);
     }
 
+    // Whether no pixel of this image is one of the other's, as far as equal strides tell it. The one that
+    // begins first has its columns in front, and the other begins so many rows and columns after it.
+    bool is_apart(const view<const value_type> &other) const noexcept {
+        if (empty() || other.empty() || !shares(other)) return true;
+        if (stride_ != other.stride_) return false;
+        const view<const value_type> self = *this;
+        std::less<const void *> before;
+        const bool is_first = !before(other.pixels_, self.pixels_);
+        const view<const value_type> &first = is_first ? self : other, &second = is_first ? other : self;
+        const std::size_t away = static_cast<std::size_t>(second.pixels_ - first.pixels_), rows = away / stride_, columns = away % stride_;
+        return (columns >= first.width_ || rows >= first.height_) && (second.width_ <= stride_ - columns || rows + 1 >= first.height_);
+    }
+
+    // A copy between windows of one image that share no pixel: row by row, since their rows alternate in memory.
+    void copy_within(const rect &window, const view<const value_type> &source) const {
+        const view part = this->window(window);
+        if (part.width_ != source.width_ || part.height_ != source.height_) throw refused(IMGREF_SIZES_DIFFER);
+        if (!part.is_apart(source)) throw std::invalid_argument("the images share pixels: move goes within one");
+        for (std::size_t y = 0; y < part.height_ && part.width_; ++y)
+            detail::done(calls::copy_window(part.written() + y * stride_, part.width_, part.width_, 1, part.width_, {0, 0, part.width_, 1},
+                                            source.cells() + y * source.stride_, part.width_, part.width_, 1, part.width_));
+    }
+
     // Refuses a target for a number of each pixel that has another size, or shares memory with this image.
     void needs_beside(const view<std::uint64_t> &numbers) const {
         if (numbers.width_ != width_ || numbers.height_ != height_) throw refused(IMGREF_SIZES_DIFFER);
@@ -525,6 +580,115 @@ template <class Pixels>
 view(Pixels &, std::size_t, std::size_t, std::size_t) -> view<std::remove_pointer_t<decltype(std::data(std::declval<Pixels &>()))>>;
 template <class T> view(T *, std::size_t, std::size_t, std::size_t, std::size_t) -> view<T>;
 
+// A view over colours of N elements (1 to 4), next to one another in a row: RGB of bytes has N = 3.
+//
+//     std::vector<unsigned char> bytes(640 * 480 * 3);
+//     auto image = imgref::colours<3>(bytes, 640, 480);
+//     image.fill({8, 8, 64, 64}, {255, 0, 0});
+//     image.turn(imgref::turn::half);
+//
+// Widths, columns and tiles are counted in colours in every call, and the stride in elements. What
+// goes by single elements isn't here: values and sums, floods, labels and boxes. They are calls of
+// a view of one channel, or of a view of a struct of 2, 4 or 8 bytes.
+template <class T, std::size_t N> class colour_view {
+    static_assert(N >= 1 && N <= 4, "a colour has 1 to 4 elements");
+    template <class U, std::size_t M> friend class colour_view;
+
+public:
+    using element_type = T;
+    using element = std::remove_cv_t<T>;
+    using value_type = std::array<element, N>;
+
+    // The image of `len` elements from a pointer on. Throws refused where they are no image of that
+    // size and stride.
+    colour_view(T *elements, std::size_t len, std::size_t width, std::size_t height, std::size_t stride) : elements_(elements, len, in_elements(width), height, stride) {}
+    // The same of a container with data() and size(), or of an array. Without a stride its rows are
+    // joined.
+    template <class Elements, class = std::enable_if_t<std::is_convertible_v<decltype(std::data(std::declval<Elements &>())), T *>>>
+    colour_view(Elements &elements, std::size_t width, std::size_t height, std::size_t stride) : elements_(elements, in_elements(width), height, stride) {}
+    template <class Elements, class = std::enable_if_t<std::is_convertible_v<decltype(std::data(std::declval<Elements &>())), T *>>>
+    colour_view(Elements &elements, std::size_t width, std::size_t height) : elements_(elements, in_elements(width), height) {}
+    // Throws refused (IMGREF_NOT_AN_IMAGE) where a row of the view is no row of whole colours.
+    explicit colour_view(const view<T> &elements) : elements_(elements) {
+        if (elements.width() % N) throw refused(IMGREF_NOT_AN_IMAGE, "the width is no multiple of the channels");
+    }
+    // A view for reading of one for writing.
+    template <class U, class = std::enable_if_t<std::is_same_v<const U, T> && !std::is_same_v<U, T>>> colour_view(const colour_view<U, N> &other) noexcept : elements_(other.elements_) {}
+
+    static constexpr std::size_t channels() noexcept { return N; }
+    std::size_t width() const noexcept { return elements_.width() / N; }
+    std::size_t height() const noexcept { return elements_.height(); }
+    std::size_t stride() const noexcept { return elements_.stride(); }
+    bool empty() const noexcept { return elements_.empty(); }
+    // The window of all.
+    rect whole() const noexcept { return {std::size_t(0), std::size_t(0), width(), height()}; }
+    // The view of the single elements.
+    view<T> elements() const noexcept { return elements_; }
+
+    // The colour in column x of row y.
+    value_type get(std::size_t x, std::size_t y) const {
+        const T *found = at(x, y);
+        value_type made;
+        std::copy(found, found + N, made.begin());
+        return made;
+    }
+    // It becomes `colour`.
+    template <std::size_t M> void put(std::size_t x, std::size_t y, const element (&colour)[M]) const { std::copy(whole_colour(colour), colour + N, at(x, y)); }
+
+    // Every colour of the window becomes `colour`. For all the window is whole().
+    template <std::size_t M> void fill(const rect &window, const element (&colour)[M]) const { elements_.fill_pixels(window, whole_colour(colour)); }
+    // How many colours of the window are `colour`.
+    template <std::size_t M> std::size_t count(const rect &window, const element (&colour)[M]) const { return elements_.count_pixels(window, whole_colour(colour)); }
+
+    // The calls of a view, as they are there.
+    void copy(const rect &window, const colour_view<const element, N> &source) const { elements_.copy(in_elements(window), source.elements_); }
+    void copy(const colour_view<const element, N> &source) const { copy(whole(), source); }
+    void move(const rect &from, const rect &to) const { elements_.move(in_elements(from), in_elements(to)); }
+    void mosaic(const rect &window, std::size_t tile_width, std::size_t tile_height) const { elements_.mosaic_pixels(N, window, tile_width, tile_height); }
+    void mosaic_means(const rect &window, std::size_t tile_width, std::size_t tile_height) const { elements_.mosaic_means(N, window, tile_width, tile_height); }
+    void turn_into(const colour_view<element, N> &target, imgref::turn by) const { elements_.turn_into(target.elements_, by, N); }
+    void transpose_into(const colour_view<element, N> &target) const { elements_.transpose_into(target.elements_, N); }
+    void turn(imgref::turn by) const { elements_.turn(by, N); }
+    void transpose() const { elements_.transpose(N); }
+    void flip_rows(const rect &window) const { elements_.flip_rows(window, N); }
+    void flip_rows() const { elements_.flip_rows(); }
+    void flip_columns(const rect &window) const { elements_.flip_columns(window, N); }
+    void flip_columns() const { elements_.flip_columns(N); }
+    void swap_rows(std::size_t y, std::size_t z) const { elements_.swap_rows(y, z); }
+    void pack() { elements_.pack(); }
+    colour_view window(const rect &window) const { return colour_view(elements_.window(in_elements(window))); }
+    tile_range tiles(std::size_t tile_width, std::size_t tile_height) const { return {width(), height(), tile_width, tile_height}; }
+
+private:
+    // (an array of N would take fewer elements in braces too, and zeros for the others)
+    template <std::size_t M> static const element (&whole_colour(const element (&colour)[M]) noexcept)[M] {
+        static_assert(M == N, "a colour has as many elements as the view has channels");
+        return colour;
+    }
+
+    // A number of colours in elements. What is too large for any image stays so.
+    static constexpr std::size_t in_elements(std::size_t number) noexcept { return number > static_cast<std::size_t>(-1) / N ? static_cast<std::size_t>(-1) : number * N; }
+    static rect in_elements(const rect &it) noexcept { return {in_elements(it.left), it.top, in_elements(it.width), it.height}; }
+
+    T *at(std::size_t x, std::size_t y) const {
+        if (x >= width()) throw refused(IMGREF_PLACE_OUTSIDE);
+        return elements_.row(y) + x * N;
+    }
+
+    view<T> elements_;
+};
+
+// The view over the colours of a container, or of `len` elements from a pointer on.
+template <std::size_t N, class Elements> auto colours(Elements &elements, std::size_t width, std::size_t height, std::size_t stride) {
+    return colour_view<std::remove_pointer_t<decltype(std::data(elements))>, N>(elements, width, height, stride);
+}
+template <std::size_t N, class Elements> auto colours(Elements &elements, std::size_t width, std::size_t height) {
+    return colour_view<std::remove_pointer_t<decltype(std::data(elements))>, N>(elements, width, height);
+}
+template <std::size_t N, class T> colour_view<T, N> colours(T *elements, std::size_t len, std::size_t width, std::size_t height, std::size_t stride) {
+    return colour_view<T, N>(elements, len, width, height, stride);
+}
+
 // Whether two images have one size and equal bits in every pixel. Strides and padding don't count.
 template <class T> bool equal(const view<const T> &one, const view<const T> &other) {
     using calls = detail::calls<sizeof(T)>;
@@ -543,6 +707,9 @@ template <class T, class U> std::enable_if_t<std::is_same_v<std::remove_const_t<
 template <class T, class U> std::enable_if_t<std::is_same_v<std::remove_const_t<T>, std::remove_const_t<U>>, bool> operator!=(const view<T> &one, const view<U> &other) {
     return !equal<std::remove_const_t<T>>(one, other);
 }
+
+template <class T, class U, std::size_t N> bool operator==(const colour_view<T, N> &one, const colour_view<U, N> &other) { return one.elements() == other.elements(); }
+template <class T, class U, std::size_t N> bool operator!=(const colour_view<T, N> &one, const colour_view<U, N> &other) { return !(one == other); }
 
 } // namespace imgref
 

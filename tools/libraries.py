@@ -34,9 +34,7 @@ class Processor:
         """The files of its archive, by their paths in it."""
         own = ["bin"] if with_programs else []
         programs, files = {product(it) for it in c_library.PROGRAMS}, {}
-        for name, source in c_library.installed().items():
-            if (name.startswith("bin/") or name in c_library.hiding()) and not with_programs:
-                continue
+        for name, source in sources(with_programs).items():
             if name.startswith("lib/"):
                 source = self.out() / source.name
             files[name] = stripped(source) if source in programs else source.read_bytes()
@@ -46,6 +44,12 @@ class Processor:
         files["LICENSE"] = (ROOT / "LICENSE").read_bytes()
         files["INSTALL"] = INSTALL.format(version=VERSION, processor=self.name, level=LEVELS[self.name], parts=" ".join([*own, "include lib share"]), programs=PROGRAMS[with_programs]).encode()
         return {f"imgref-{VERSION}-{self.name}-linux/{name}": data for name, data in files.items()}
+
+
+def sources(with_programs):
+    """What an archive has of the files that are installed, by their paths in it. The pages of section 1 are those of the programs."""
+    of_programs = lambda name: name.startswith(("bin/", "share/man/man1/")) or name in c_library.hiding()
+    return {name: it for name, it in c_library.installed().items() if with_programs or not of_programs(name)}
 
 
 def stripped(program):
@@ -73,6 +77,14 @@ SHA256SUMS has the sum of the archive, and PROVENANCE.json says what is proved o
 """
 
 
+def has_c_library(its):
+    """Whether the compiler for a processor finds the C library's header and what it links. (A name with no folder is one that it
+    doesn't find.)"""
+    found = run_to_end([f"{its.tools}gcc", "-print-file-name=libc.so"]).stdout.strip()
+    ran = run_to_end([f"{its.tools}gcc", "-E", "-include", "string.h", "-x", "c", "/dev/null"])
+    return "/" in found and not ran.returncode
+
+
 def build():
     """Builds the libraries for both processors where a source has changed."""
     c_library.build()
@@ -80,6 +92,8 @@ def build():
     lacking = [it for it in ("gcc", "objcopy", "ar") if not shutil.which(OTHER.tools + it)]
     if lacking:
         raise Failure(f"{OTHER.tools}{lacking[0]} isn't on this machine: apt-get install gcc-aarch64-linux-gnu")
+    if not has_c_library(OTHER):
+        raise Failure(f"the C library for {OTHER.name} isn't on this machine: apt-get install libc6-dev-{OTHER.debian}-cross")
     out.mkdir(parents=True, exist_ok=True)
     with held(out):
         if is_fresh(out / "libimgref.a", c_library.NAME):

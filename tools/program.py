@@ -80,6 +80,7 @@ class BusyCores:
 
 def built(*names):
     """Proves and builds these crates and those below them where something has changed, and returns the status of that."""
+    need_rattle()
     left = changed(names)
     if not left:
         return 0

@@ -4,6 +4,7 @@
 what it made and cached is moved to the crate's folder, where `rt` finds it.
 """
 import concurrent.futures
+import dataclasses
 import os
 import re
 import subprocess
@@ -171,22 +172,36 @@ def work_on(name, jobs, is_long, progress):
     progress.end(name)
 
 
-def prove(names, progress):
-    """Proves and builds these crates, the longest chain first, each once those below it are proved. Raises Failed of the first
-    that is not proved, once those that had begun have ended."""
+@dataclasses.dataclass
+class After:
+    """What is done with a crate once it is proved, by a processor that no crate needs: a call, and roughly its seconds."""
+
+    name: str
+    seconds: float
+    run: object
+
+
+def prove(names, progress, after=()):
+    """Proves and builds these crates, the longest chain first, each once those below it are proved. Then, or where processors are
+    idle, comes what is done after, the longest first. Raises Failed of the first that is not proved, once what had begun has ended."""
     chain, count, left, running, failed = chains(names), processors(), [*names], {}, None
-    with concurrent.futures.ThreadPoolExecutor(max(len(left), 1)) as pool:
-        while running or left and not failed:
-            waiting = {*left, *running.values()}
+    later = sorted(after, key=lambda it: -it.seconds)
+    with concurrent.futures.ThreadPoolExecutor(max(len(left) + len(later), 1)) as pool:
+        while running or (left or later) and not failed:
+            busy = {it for it in running.values() if it}
+            waiting = {*left, *busy}
             ready = [it for it in left if not failed and not waiting & {*with_those_below(it)[:-1]}]
             for name in sorted(ready, key=lambda it: -chain[it]):
                 if len(running) >= count:
                     break
-                is_long = all(chain[name] >= LONG * chain[it] for it in running.values())
+                is_long = all(chain[name] >= LONG * chain[it] for it in busy)
                 jobs = jobs_of(name, is_long, count - len(running), len(ready))
                 left.remove(name)
                 ready.remove(name)
                 running[pool.submit(work_on, name, jobs, is_long, progress)] = name
+            for it in [it for it in later if it.name not in waiting and not failed][: max(count - len(running), 0)]:
+                later.remove(it)
+                running[pool.submit(it.run)] = None
             ended = concurrent.futures.wait(running, return_when=concurrent.futures.FIRST_COMPLETED).done
             for it in ended:
                 running.pop(it)
@@ -218,12 +233,13 @@ def changed(names):
     return [it for it in all_below(names) if not is_fresh(product(it), it)]
 
 
-def prove_changed(names, progress):
-    """Proves and builds these crates and those below them where something has changed. Returns what was said where that failed, or nothing."""
+def prove_changed(names, progress, after=()):
+    """Proves and builds these crates and those below them where something has changed, and does what comes after. Returns what was said
+    where a proof failed, or nothing."""
     left = changed(names)
     progress.done |= {it for it in all_below(names) if it not in left}
     try:
-        prove(left, progress)
+        prove(left, progress, after)
     except Failed as failed:
         return f"{failed.name} is not proved\n{failed.said}"
     return None

@@ -25,8 +25,23 @@ TRIED = ("3.10", "3.11", "3.12", "3.13")
 HOOK = "import sys; sys.path.insert(0, sys.argv[1]); import backend\ntry: print(backend.build_wheel(sys.argv[2]))\nexcept backend.Failure as why: sys.exit(str(why))"
 
 
+# The oldest Python that the package takes.
+OLDEST = (3, 10)
+ASKS = "import sys; print(sys.implementation.name, '%d.%d.%d' % sys.version_info[:3])"
+
+
+def fits(python):
+    """Refuses a Python that isn't there, or that the package isn't for, before anything is proved."""
+    if not shutil.which(python):
+        raise c_library.Failure(f"PYTHON: there is no program {python}")
+    name, _, version = run_to_end([python, "-c", ASKS]).stdout.strip().partition(" ")
+    if name != "cpython" or tuple(map(int, version.split(".")[:2])) < OLDEST:
+        raise c_library.Failure(f"the package needs CPython {OLDEST[0]}.{OLDEST[1]} or later, and {python} is {f'{name} {version}'.strip() or 'no Python'}: PYTHON names another one")
+
+
 def build(python=os.environ.get("PYTHON") or sys.executable):
     """Builds the wheel for a Python, and returns its path."""
+    fits(python)
     c_library.build()
     shutil.rmtree(OUT, ignore_errors=True)
     OUT.mkdir(parents=True)

@@ -3,7 +3,7 @@
 
     setup.py           all of it, also what `make gate` and `make release` alone need
     setup.py test      what `make test` needs
-    setup.py list      prints the packages, as CONTRIBUTING.md shows them
+    setup.py list      prints the packages, for the line of CONTRIBUTING.md
 
 It says which packages, and how large they are. Where it may not install them (no root and no `sudo` without a password), or where
 there is no apt-get, it prints the line to type, and ends with status 1. A package that apt doesn't know is named and left out.
@@ -17,14 +17,12 @@ import sys
 from needs import imports, missing, needs, of_tests
 from processes import end_on_signals, run_to_end, started
 
-# The columns of a line that lists packages.
-COLUMNS = 100
 # Packages are asked for twice, and a server that is silent isn't waited for longer than these seconds. Another apt-get has this long
 # to end.
 PATIENCE = ["-o", "Acquire::Retries=1", "-o", "Acquire::http::Timeout=20", "-o", "Acquire::https::Timeout=20", "-o", "DPkg::Lock::Timeout=300"]
 INSTALL = ["apt-get", "install", "-y", "--no-install-recommends"]
 # What apt-get says of sizes, and of packages that it doesn't know.
-SIZES = re.compile(r"Need to get ([\d.,]+ \wB)(?:/([\d.,]+ \wB))? of archives|After this operation, ([\d.,]+ \wB) of additional disk space")
+SIZES = re.compile(r"Need to get ([\d.,]+ \w?B)(?:/([\d.,]+ \w?B))? of archives|After this operation, ([\d.,]+ \w?B) of additional disk space")
 UNKNOWN = re.compile(r"Unable to locate package (\S+)|Package '?([\w.+-]+?)'? has no installation candidate")
 
 
@@ -77,7 +75,7 @@ def install(root, packages):
             say(f"apt knows no package {it}: it is left out")
     if not known:
         return last(lists) if lists.returncode else "nothing can be installed"
-    say(f"{len(known)} packages, {size(said)}, which takes some minutes: {' '.join(known)}")
+    say(f"installing {' '.join(known)} ({size(said)}), which may take some minutes")
     words = [*root, "env", "DEBIAN_FRONTEND=noninteractive", "LC_ALL=C", *INSTALL, *PATIENCE, *known]
     with started(words, stdin=subprocess.DEVNULL, stdout=subprocess.PIPE, stderr=subprocess.STDOUT, text=True, errors="replace") as ran:
         told = ran.stdout.read()
@@ -86,7 +84,7 @@ def install(root, packages):
 
 def last(ran, said=None):
     """The last error that apt-get told of."""
-    lines = [it for it in (said or f"{ran.stdout}\n{ran.stderr}").splitlines() if it.startswith(("E:", "W:", "Err:"))]
+    lines = [it for it in (said or f"{ran.stderr}\n{ran.stdout}").splitlines() if it.startswith(("E:", "W:"))]
     return lines[0] if lines else f"apt-get ends with status {ran.returncode}"
 
 
@@ -101,7 +99,7 @@ def set_up(packages):
         return lacking
     root = as_root()
     if root is None:
-        say(f"{len(lacking)} packages are missing, and this user may not install them. Please type:\n    {typed(lacking)}")
+        say(f"of {len(packages)} packages {len(lacking)} are missing, and this user may not install them. Please type:\n    {typed(lacking)}")
         return lacking
     why = install(root, lacking)
     imports.cache_clear()
@@ -111,23 +109,13 @@ def set_up(packages):
     elif left:
         say(f"still missing: {' '.join(left)}")
     else:
-        say(f"installed {len(lacking)} packages")
+        say("all is installed")
     return left
-
-
-def listed():
-    """The line of CONTRIBUTING.md: a command in lines of at most COLUMNS, each indented as code."""
-    lines, line = [], "    sudo apt-get install --no-install-recommends"
-    for it in needs():
-        if len(line) + len(it) + 3 > COLUMNS:
-            lines, line = [*lines, f"{line} \\"], "       "
-        line += f" {it}"
-    return "\n".join([*lines, line])
 
 
 def main(words):
     if words == ["list"]:
-        print(listed())
+        print(*needs())
         return 0
     if words not in ([], ["test"]):
         sys.exit(__doc__)

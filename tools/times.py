@@ -24,7 +24,7 @@ import time
 
 from processes import end_on_signals
 from proving import CORES, Failed, Progress, prove_changed, run, weights_of
-from workspace import ROOT, crates, room, with_those_below
+from workspace import ROOT, crates, need_rattle, room, with_those_below
 
 ENDED = re.compile(r"checked (\S+), \d+ of \d+")
 AFTER = "(after the last function)"
@@ -104,6 +104,7 @@ def main():
     asked.add_argument("--waits", action="store_true")
     asked.add_argument("--least", type=float, default=2.0, metavar="SECONDS")
     asked = asked.parse_args()
+    need_rattle()
     if asked.waits:
         return tell_waits(asked.crates or ["imgref_run", "imgref_frames"])
     names, total = asked.crates or [*crates()], 0

@@ -4,6 +4,7 @@ A room is a folder with one crate and those below it: copies of their sources, a
 lets one run at a time work in a crate and in all below it, so crates are proved side by side in rooms.
 """
 import contextlib
+import errno
 import fcntl
 import os
 import pathlib
@@ -27,8 +28,20 @@ def fill_streams():
     os.close(number)
 
 
+def tell(kind, why, trace):
+    """Says in one line what this machine lacks where that ends a tool: a checkout that can be written into, or a program."""
+    name = str(getattr(why, "filename", None) or "")
+    if isinstance(why, OSError) and why.errno in (errno.EROFS, errno.EACCES) and name.startswith(str(ROOT)):
+        print(f"this needs a checkout that it can write into: {why}", file=sys.stderr)
+    elif isinstance(why, FileNotFoundError) and name and "/" not in name:
+        print(f"{name} is needed, and there is no such program on PATH. `make setup` installs the tools.", file=sys.stderr)
+    else:
+        sys.__excepthook__(kind, why, trace)
+
+
 # Each tool of `make` imports this file before it opens another.
 fill_streams()
+sys.excepthook = tell
 
 
 # The kits of Rattle by which everything here is proved, and their logic: another one may refuse a proof.
@@ -157,6 +170,15 @@ def held(folder):
 
 def keep(made, name):
     """Moves what was made and cached in a room to the crate itself."""
+    keep_all(made, name)
+    with held(ROOT / "crates" / name):
+        # (rt leaves a stamp or a program whose text has not changed as it was)
+        if product(name).is_file():
+            product(name).touch()
+
+
+def keep_all(made, name):
+    """Moves all that is in a room's folder out/ to the crate itself."""
     target = ROOT / "crates" / name / "out"
     with held(target.parent):
         target.mkdir(exist_ok=True)
@@ -165,6 +187,11 @@ def keep(made, name):
             if there.is_dir():
                 shutil.rmtree(there, ignore_errors=True)
             shutil.move(it, there)
-        # (rt leaves a stamp or a program whose text has not changed as it was)
-        if product(name).is_file():
-            product(name).touch()
+
+
+def keep_program(program, name, ending):
+    """Moves a program that was made in a room to the crate's folder out/, under the crate's name and an ending."""
+    target = ROOT / "crates" / name / "out"
+    with held(target.parent):
+        shutil.move(program, target / f"{name}{ending}")
+        (target / f"{name}{ending}").touch()

@@ -5,11 +5,16 @@ import { FIELDS } from "./list.js";
 import { PicturePage } from "./picture.js";
 import { colourOf, toolOf } from "./tools.js";
 
+// How long after a click another one belongs to it, in milliseconds, and how far away it may be.
+const DOUBLE = 500, NEAR = 16;
+
 /** Starts the page over a library. */
 export function startPicture(library) {
   const page = new PicturePage(library), { view } = page.stage;
   const on = (id, name, act) => find(id).addEventListener(name, act);
-  on("open", "click", () => find("file").click());
+  for (const it of ["open", "drop"]) {
+    on(it, "click", () => find("file").click());
+  }
   on("file", "change", async ({ target }) => {
     const files = [...target.files];
     target.value = "";
@@ -40,9 +45,38 @@ export function startPicture(library) {
     on(it, "click", () => find("ask").close(it));
   }
   takeFiles(page);
+  takeOnce(["save", "hand"].map(find));
   document.addEventListener("keydown", (event) => keys(page, event));
   window.addEventListener("beforeunload", (event) => page.isUnsaved && event.preventDefault());
   page.render();
+}
+
+/** A double click on one of these buttons is one, and so is a key that is held: the rest does nothing, here and below a dialog. */
+function takeOnce(buttons) {
+  let last = { time: -Infinity, place: [0, 0] };
+  const isSecond = (event) => event.timeStamp - last.time < DOUBLE
+    && Math.hypot(event.clientX - last.place[0], event.clientY - last.place[1]) < NEAR;
+  const stop = (event) => {
+    event.stopImmediatePropagation();
+    event.preventDefault();
+  };
+  window.addEventListener("click", (event) => {
+    // (keys click too: those have no detail)
+    if (event.detail > 0 && isSecond(event)) {
+      stop(event);
+    } else if (event.detail > 0 && buttons.some((it) => it.contains(event.target))) {
+      last = { time: event.timeStamp, place: [event.clientX, event.clientY] };
+    }
+  }, true);
+  window.addEventListener("pointerdown", (event) => isSecond(event) && stop(event), true);
+  let began = null;
+  window.addEventListener("keydown", (event) => {
+    const isHeld = event.repeat && (event.target !== began || buttons.includes(event.target));
+    began = event.repeat ? began : event.target;
+    if (isHeld && ["Enter", " "].includes(event.key)) {
+      event.preventDefault();
+    }
+  }, true);
 }
 
 /** Files that are dropped or pasted are opened. */

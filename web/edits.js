@@ -111,32 +111,24 @@ export function textOf(edit) {
   ].join(" ");
 }
 
-// (an earlier list's edits with which the text begins stay: so a stroke of the brush stays one edit)
+// (where the lines of an earlier list's stroke are in the text, the stroke stays one edit)
 
 /** The edits of a text with one edit on each line, for a picture of this size. Comments and empty lines are ignored. */
 export function editsOf(text, size, earlier = []) {
-  const edits = [];
-  let rest = text;
-  for (const it of earlier) {
-    const lines = `${textOf(it)}\n`;
-    if (!rest.startsWith(lines)) {
-      break;
+  const edits = [], lines = text.split("\n").map((it) => it.replace(COMMENT, "").split(GAPS).filter(Boolean));
+  const strokes = earlier.filter((it) => it.word === "brush").map((edit) => ({ edit, lines: textOf(edit).split("\n") }));
+  for (let index = 0; index < lines.length; index += 1) {
+    const number = index + 1, stroke = strokes.findIndex((it) => it.lines.every((line, at) => lines[index + at]?.join(" ") === line));
+    const [whole] = stroke < 0 ? [] : strokes.splice(stroke, 1);
+    if (lines[index].length > 0) {
+      const edit = whole?.edit ?? { ...editOf(lines[index], number, size), line: number }, last = edits.at(-1);
+      if (last && (rank(last) > rank(edit) || (resizes(last) && resizes(edit)))) {
+        throw new BadEdit(number, resizes(last) ? ONE_SIZE : TURNS_LAST);
+      }
+      edits.push(edit);
+      index += whole ? whole.lines.length - 1 : 0;
     }
-    edits.push(it);
-    rest = rest.slice(lines.length);
   }
-  const before = text.slice(0, text.length - rest.length).split("\n").length;
-  rest.split("\n").forEach((line, index) => {
-    const words = line.replace(COMMENT, "").split(GAPS).filter(Boolean);
-    if (words.length === 0) {
-      return;
-    }
-    const number = before + index, edit = editOf(words, number, size), last = edits.at(-1);
-    if (last && (rank(last) > rank(edit) || (resizes(last) && resizes(edit)))) {
-      throw new BadEdit(number, resizes(last) ? ONE_SIZE : TURNS_LAST);
-    }
-    edits.push({ ...edit, line: number });
-  });
   return edits;
 }
 

@@ -1,7 +1,12 @@
 // A picture as a file. A worker encodes it, so that the page goes on meanwhile. What a browser adds to the pixels is left out:
 // Chromium adds a colour profile to a JPEG, and Firefox a chunk to a PNG that is another one in each session.
 
-/** What runs in the worker: it gets bytes, and gives a file or the reason why there is none. */
+import { NOISE, givesPixels } from "./noise.js";
+
+// How many pixels are read back before a picture is encoded.
+const READ_BACK = 65536;
+
+/** What runs in the worker: it gets bytes or a file, and gives a file or the reason why there is none. */
 function encodeInWorker() {
   const pixelsOfPng = (bytes, view) => {
     const parts = [bytes.subarray(0, 8)];
@@ -27,11 +32,28 @@ function encodeInWorker() {
     }
     return [...parts, bytes.subarray(at)];
   };
-  self.onmessage = async ({ data: { bytes, width, type, quality } }) => {
+  const drawn = async ({ file, bytes, width }) => {
+    const image = file ? await createImageBitmap(file) : new ImageData(bytes, width);
+    const canvas = new OffscreenCanvas(image.width, image.height), context = canvas.getContext("2d");
+    if (file) {
+      context.drawImage(image, 0, 0);
+      image.close();
+    } else {
+      context.putImageData(image, 0, 0);
+    }
+    return { canvas, context };
+  };
+  // (the first rows: all that is opaque is as it was put there)
+  const isKept = ({ canvas: { width, height }, context }, { bytes }) => {
+    const rows = Math.min(Math.ceil(READ_BACK / width), height), { data } = context.getImageData(0, 0, width, rows);
+    return data.every((it, index) => it === bytes[index] || bytes[index | 3] < 255);
+  };
+  self.onmessage = async ({ data: asked }) => {
     try {
-      const height = bytes.length / 4 / width;
-      const canvas = new OffscreenCanvas(width, height), context = canvas.getContext("2d");
-      context.putImageData(new ImageData(bytes, width, height), 0, 0);
+      const { type, quality, bytes } = asked, { canvas, context } = await drawn(asked), { width, height } = canvas;
+      if (!await givesPixels() || (bytes && !isKept({ canvas, context }, asked))) {
+        throw new Error(NOISE);
+      }
       if (type === "image/jpeg") {
         // (a JPEG has no clear pixels: they become white)
         context.globalCompositeOperation = "destination-over";
@@ -50,12 +72,22 @@ function encodeInWorker() {
 
 /** The bytes of a picture as a file of this type. They belong to the worker then. */
 export function encoded(bytes, width, type, quality) {
-  const url = URL.createObjectURL(new Blob([`(${encodeInWorker})()`], { type: "text/javascript" }));
+  return byWorker({ bytes, width, type, quality }, [bytes.buffer]);
+}
+
+/** The pixels of a file as PNG. */
+export function encodedAgain(file) {
+  return byWorker({ file, type: "image/png" }, []);
+}
+
+function byWorker(asked, given) {
+  const constants = `const NOISE = ${JSON.stringify(NOISE)}, READ_BACK = ${READ_BACK}, givesPixels = ${givesPixels};`;
+  const url = URL.createObjectURL(new Blob([`${constants}(${encodeInWorker})()`], { type: "text/javascript" }));
   const worker = new Worker(url);
   return new Promise((done, fail) => {
     worker.onmessage = ({ data }) => (data.file ? done(data.file) : fail(new Error(data.why)));
     worker.onerror = () => fail(new Error("the worker doesn't run"));
-    worker.postMessage({ bytes, width, type, quality }, [bytes.buffer]);
+    worker.postMessage(asked, given);
   }).finally(() => {
     worker.terminate();
     URL.revokeObjectURL(url);

@@ -81,7 +81,7 @@ export function renderSelected(edit, picture, seen, changeKind) {
   const kinds = canChange ? KINDS.filter((it) => it !== kind) : [];
   find("changes").replaceChildren(...kinds.map((word) => {
     const button = document.createElement("button");
-    button.textContent = `Change '${wordsOf(numbers)}' to a ${word === "mosaic" ? "mosaic of means" : word}`;
+    button.textContent = `Change '${wordsOf(numbers)}' to a ${word === "mosaic" ? "pixelated one" : word}`;
     button.dataset.word = word;
     button.addEventListener("click", () => changeKind(word));
     return button;

@@ -97,6 +97,7 @@ function readPng(file, found) {
         return;
     }
   }
+  tellCut(found);
 }
 
 function readJpeg(file, found) {
@@ -110,12 +111,25 @@ function readJpeg(file, found) {
     if (isFrame) {
       found.size = [data.u16(3), data.u16(1)];
     } else if (marker === 0xffda) {
-      tellRest(file, endOfJpeg(file, at + 2 + size), found);
+      const end = unlessCut(() => endOfJpeg(file, at + 2 + size));
+      end === null ? tellCut(found) : tellRest(file, end, found);
       return;
     } else {
-      readSegment(marker, data, found);
+      unlessCut(() => readSegment(marker, data, found));
     }
     at += 2 + size;
+  }
+}
+
+/** What a reader gives, or null where it reads past the end. */
+function unlessCut(read) {
+  try {
+    return read();
+  } catch (why) {
+    if (!(why instanceof RangeError)) {
+      throw why;
+    }
+    return null;
   }
 }
 
@@ -212,7 +226,15 @@ function readWebp(file, found) {
     frames += kind === "ANMF";
     at += 8 + size + (size % 2);
   }
+  if (file.part(4, 4, true).u32(0) + 8 > file.length) {
+    tellCut(found);
+  }
   tellFrames(frames, found);
+}
+
+/** A file that ends before its picture does: some browsers show what is there, and grey below it. */
+function tellCut(found) {
+  found.lost.push("The file ends too early: a part of the picture is missing.");
 }
 
 function tellFrames(count, found) {

@@ -1,6 +1,8 @@
 // The picture with its edits: added, changed, taken back, and shown.
 
 import { find } from "./common.js";
+import { asked } from "./ask.js";
+import { Draft } from "./draft.js";
 import { BadEdit, covers, editsOf, futility, resizes, textOf, withEdit } from "./edits.js";
 import { BY_TEXT, known, lossesOf, lostAfter, recognized, settled } from "./losses.js";
 import { Opener } from "./open.js";
@@ -16,6 +18,7 @@ import { coversInWords } from "./words.js";
 const TOGETHER = 1000;
 const LATE =
   "Note: a move comes before a fill or a mosaic. It may carry pixels out of what is covered.";
+const UNAPPLIED = "The text of the edits has changes that aren't applied. Apply them first?";
 const HOLD_STILL = "Hold a finger still for a moment, then draw. Two fingers zoom.";
 const FOR_A_PICTURE = [
   "save", "add", "apply", "copy", "smaller", "larger", "fit", "actual", "turn-left", "turn-right", "mirror",
@@ -24,7 +27,7 @@ const FOR_A_PICTURE = [
 /** What a person sees and does on the page. */
 export class PicturePage {
   constructor(library) {
-    this.library = library;
+    Object.assign(this, { library, draft: new Draft(), faults: 0 });
     this.forget();
     this.stage = new Stage({
       draw: (it) => this.draw(it),
@@ -32,6 +35,7 @@ export class PicturePage {
       select: (index) => this.select(index),
       remove: (index) => this.remove(index),
       swipe: () => this.say(HOLD_STILL),
+      isOpen: () => this.pixels !== null,
     }, toolOf);
     this.opener = new Opener(this);
     this.saver = new Saver(this);
@@ -39,6 +43,9 @@ export class PicturePage {
 
   /** No picture, and no edits. */
   forget() {
+    if (this.pixels) {
+      this.draft.put([]);
+    }
     this.pixels?.end();
     Object.assign(this, { pixels: null, edits: [], lost: [], losses: [], past: [], future: [] });
     Object.assign(this, { selected: -1, byKeys: -Infinity, kept: "" });
@@ -47,11 +54,27 @@ export class PicturePage {
   say(text, isProblem = false) {
     find("status").textContent = text;
     find("status").classList.toggle("problem", isProblem);
+    this.faults += isProblem;
   }
 
   /** Whether edits would be lost with the page. */
   get isUnsaved() {
+    return this.isListUnsaved || this.hasDraft;
+  }
+
+  /** The same of the list alone. */
+  get isListUnsaved() {
     return this.edits.length > 0 && this.kept !== this.text;
+  }
+
+  /** Whether a person typed edits as text that aren't applied. */
+  get hasDraft() {
+    return this.pixels !== null && this.draft.isOpen;
+  }
+
+  /** All that would be lost with the page, as a text. */
+  get state() {
+    return `${this.text}\n${find("text").value}`;
   }
 
   /** The edits as text. */
@@ -126,7 +149,26 @@ export class PicturePage {
 
   /** The edits are with the browser as a file: from here on each cover is what it is now. */
   settle() {
-    [this.edits, this.lost, this.kept] = [settled(this.edits), [], this.text];
+    [this.edits, this.lost, this.losses, this.kept] = [settled(this.edits), [], [], this.text];
+  }
+
+  /** Ends what is typed in a field of the selected edit, as a click elsewhere does. Whether nothing of it was refused. */
+  endTyping() {
+    const field = document.activeElement, { faults } = this;
+    if (find("selected").contains(field)) {
+      field.blur();
+      field.focus({ preventScroll: true });
+    }
+    return faults === this.faults;
+  }
+
+  /** Whether what a person typed is in the list, or may be left out of the file. */
+  async endAllTyping() {
+    if (!this.endTyping()) {
+      return false;
+    }
+    const way = this.hasDraft ? await asked(UNAPPLIED, "Apply the text", "Go on without it") : "discard";
+    return way === "discard" || (way === "keep" && this.applyText());
   }
 
   step(from, to) {
@@ -282,17 +324,22 @@ export class PicturePage {
     this.select(-1);
   }
 
-  /** The edits of the text in the place of the present ones. */
+  /** The edits of the text in the place of the present ones. Whether they are carried out. */
   applyText() {
     try {
-      const edits = recognized(editsOf(find("text").value, this.pixels, this.edits), this.edits);
+      const typed = recognized(editsOf(find("text").value, this.pixels, this.edits), this.edits);
       this.selected = -1;
-      this.commit(edits, { how: BY_TEXT });
+      const isDone = this.commit(this.draft.withLater(typed, this.edits), { how: BY_TEXT });
+      if (isDone) {
+        this.draft.put(this.edits);
+      }
+      return isDone;
     } catch (why) {
       if (!(why instanceof BadEdit)) {
         throw why;
       }
       this.say(why.message, true);
+      return false;
     }
   }
 
@@ -320,6 +367,6 @@ export class PicturePage {
     renderSelected(edits[selected], pixels, seen, (word) => this.changeKind(word));
     find("covers").textContent = pixels ? coversInWords(edits) : "";
     renderLosses(find("losses"), this.losses, (it) => this.bringBack(it));
-    find("text").value = this.text;
+    this.draft.show(edits);
   }
 }

@@ -1,10 +1,11 @@
-// A picture whose pixels are in the module's memory, once. Each change is a call of the module.
+// A picture whose pixels are in the module's memory: as they were opened, and as the edits make them. Each change is a call
+// of the module.
 //
-// Before an edit, the pixels that it will change are copied to a place of their own, so that it can
-// be taken back. These copies are a stack: the last edit is taken back first.
+// An edit is taken back from what was opened: its rectangle is copied from there, and each other edit of that rectangle is
+// carried out again. So the memory doesn't grow with the edits.
 
 import { Refused, WINDOW_OUTSIDE } from "./calls.js";
-import { BadEdit, resizes, textOf } from "./edits.js";
+import { BadEdit, common, contains, resizes, textOf } from "./edits.js";
 import { orients } from "./orientation.js";
 
 const MOST = 2n ** 32n;
@@ -15,8 +16,13 @@ export class Pixels {
   constructor(library, width, height) {
     this.library = library;
     this.begin = library.top;
-    this.image = taken(library, width, height);
+    [this.image, this.opened] = [taken(library, width, height), taken(library, width, height)];
     this.applied = [];
+  }
+
+  /** The bytes in the memory are the picture as it was opened. */
+  keep() {
+    this.library.copy(this.opened, { left: 0, top: 0, width: this.width, height: this.height }, this.image);
   }
 
   get width() {
@@ -39,46 +45,34 @@ export class Pixels {
 
   /** Shows these edits, and returns what has changed: nothing, where one is refused. */
   show(edits) {
-    const before = this.applied.map((it) => it.edit);
-    const same = commonLength(before, edits);
+    const before = [...this.applied], same = commonLength(before, edits);
     const changed = this.takeBack(same);
     for (const [index, edit] of edits.entries()) {
       if (index < same) {
         continue;
       }
       try {
-        changed.push(this.apply(edit));
+        changed.push(...this.apply(edit));
       } catch (why) {
         this.takeBack(same);
         before.slice(same).forEach((it) => this.apply(it));
         throw why instanceof Refused ? new BadEdit(edit.line ?? index + 1, why.message) : why;
       }
     }
-    return changed;
+    return outermost(changed);
   }
 
   /** Carries out one edit, and tells which rectangle it changed. */
   apply(edit) {
-    const { library, image } = this;
-    if (resizes(edit) || orients(edit)) {
-      if (resizes(edit)) {
-        this.checkSize(edit);
-      }
-      this.applied.push({ edit, window: null });
-      return empty();
+    if (resizes(edit)) {
+      this.checkSize(edit);
     }
-    const window = changedBy(edit), top = library.top;
-    const source = library.part(image, window);
-    const old = taken(library, window.width, window.height);
-    try {
-      library.copy(old, { ...window, left: 0, top: 0 }, source);
+    const isInside = !resizes(edit) && !orients(edit);
+    if (isInside) {
       this.change(edit);
-    } catch (why) {
-      library.release(top);
-      throw why;
     }
-    this.applied.push({ edit, window, old, top });
-    return window;
+    this.applied.push(edit);
+    return isInside ? [changedBy(edit)] : [];
   }
 
   /** The call of an edit. */
@@ -107,25 +101,35 @@ export class Pixels {
     }
   }
 
-  /** Takes all edits back but so many, the last one first, and returns what has changed. */
+  /** Takes all edits back but so many, and returns what has changed. */
   takeBack(count) {
-    const changed = [];
-    while (this.applied.length > count) {
-      const { window, old, top } = this.applied.pop();
-      if (window) {
-        this.library.copy(this.image, window, old);
-        this.library.release(top);
-        changed.push(window);
+    const changed = this.applied.splice(count).filter((it) => !resizes(it) && !orients(it)).map(changedBy);
+    const again = this.closed(changed), places = outermost(changed);
+    places.forEach((it) => this.library.copy(this.image, it, this.library.part(this.opened, it)));
+    this.applied.filter((it) => again.has(it)).forEach((it) => this.change(it));
+    return places;
+  }
+
+  /** The edits that read or write one of these rectangles. All that they read or write is added to the rectangles. */
+  closed(places) {
+    const found = new Set();
+    // (the rectangles grow meanwhile)
+    for (const place of places) {
+      for (const it of this.applied) {
+        if (!found.has(it) && usedBy(it).some((one) => common(one, place))) {
+          found.add(it);
+          places.push(...usedBy(it));
+        }
       }
     }
-    return changed;
+    return found;
   }
 
   /** What is saved, after a crop or a pad, turns and flips: calls `use` with its bytes, width and height. */
   output(use) {
     const { library } = this, top = library.top;
     try {
-      const made = this.applied.map((it) => it.edit).reduce((image, it) => this.after(it, image), this.image);
+      const made = this.applied.reduce((image, it) => this.after(it, image), this.image);
       return use(library.bytes(made.at, 4 * made.count), made.width, made.height);
     } finally {
       library.release(top);
@@ -186,8 +190,16 @@ function changedBy({ word, left, top, width, height, x, y }) {
   return word === "move" ? { left: x, top: y, width, height } : { left, top, width, height };
 }
 
-function empty() {
-  return { left: 0, top: 0, width: 0, height: 0 };
+/** The rectangles that an edit reads or writes. */
+function usedBy(edit) {
+  const { word, left, top, width, height } = edit;
+  return resizes(edit) || orients(edit) ? [] : [changedBy(edit), ...(word === "move" ? [{ left, top, width, height }] : [])];
+}
+
+/** Rectangles without those that another one contains. */
+function outermost(rectangles) {
+  return rectangles.reduce((found, it) => (found.some((other) => contains(other, it)) ? found
+    : [...found.filter((other) => !contains(it, other)), it]), []);
 }
 
 /** A colour as a cell: its bytes in memory are red, green, blue, and 255 for opaque. */

@@ -1,5 +1,5 @@
-// What pointers do on the picture: a mouse or a pen drags. A finger scrolls, or drags after a hold, and
-// two fingers zoom.
+// What pointers do on the picture and beside it: a mouse or a pen drags. A finger drags where nothing can be scrolled. Else it
+// scrolls, or drags after a hold. Two fingers zoom.
 
 import { find } from "./common.js";
 
@@ -7,7 +7,9 @@ import { find } from "./common.js";
 const HOLD = 250, STILL = 6;
 
 export class Pointers {
-  /** The `acts` are called in a drag: `begin`, `move`, `end` and `cancel`; `swipe` where a finger scrolls all of it. */
+  // (`isOpen` of the acts tells whether there is a picture)
+
+  /** The `acts` are called in a drag: `begin`, `move`, `end` and `cancel`; `swipe` where a finger scrolls. */
   constructor(surface, view, acts) {
     Object.assign(this, { surface, view, acts, fingers: new Map(), mode: "", timer: 0 });
     surface.addEventListener("pointerdown", (event) => this.down(event));
@@ -19,6 +21,9 @@ export class Pointers {
   }
 
   down(event) {
+    if (!this.acts.isOpen() || !this.view.hasPlace([event.clientX, event.clientY])) {
+      return undefined;
+    }
     event.preventDefault();
     if (event.pointerType === "touch") {
       return this.finger(event);
@@ -28,6 +33,7 @@ export class Pointers {
       this.last = [event.clientX, event.clientY];
       this.start(event.button === 0 ? "drag" : "scroll", event);
     }
+    return undefined;
   }
 
   /** Another finger is on the picture. */
@@ -72,10 +78,13 @@ export class Pointers {
       this.acts.move(event);
     } else if (this.mode === "wait" && Math.hypot(now[0] - this.last[0], now[1] - this.last[1]) > STILL) {
       clearTimeout(this.timer);
-      this.mode = "scroll";
-      if (this.view.isFitting) {
-        // (there is nothing to scroll, so the person meant to draw)
+      if (this.view.canScroll) {
+        this.mode = "scroll";
         this.acts.swipe();
+      } else {
+        // (there is nothing to scroll, so the person means to draw)
+        this.start("drag", this.first);
+        this.acts.move(event);
       }
     }
     if (this.mode === "scroll") {

@@ -1,7 +1,8 @@
 // Saving: the file is made and shown first. Then it is handed to the browser, or the picture goes to the clipboard.
 
+import { isDialogOpen } from "./ask.js";
 import { find } from "./common.js";
-import { encoded } from "./encode.js";
+import { encoded, encodedAgain } from "./encode.js";
 import { renderLosses } from "./list.js";
 import { marksOf } from "./marks.js";
 import { Sheet } from "./sheet.js";
@@ -14,45 +15,56 @@ export class Saver {
     Object.assign(this, { page, ready: null, sheet: new Sheet() });
     find("preview").addEventListener("close", () => this.forget());
     find("to-edits").addEventListener("click", () => find("preview").close());
+    // (over plain http a browser gives no clipboard)
+    for (const it of ["copy-picture", "copy"]) {
+      find(it).hidden = !navigator.clipboard?.write;
+    }
   }
 
-  /** The picture as a file of this type, with its size. */
-  async made(type, quality) {
-    let bytes, size;
-    this.page.pixels.output((output, width, height) => {
-      [bytes, size] = [output.slice(), [width, height]];
-    });
-    return { file: await encoded(bytes, size[0], type, quality), size };
-  }
-
-  /** Makes the file, and shows what is in it. Until it is closed nothing else can be changed. */
+  /** Makes the file, and shows what is in it. Until it is closed nothing else can be changed or opened. */
   async preview() {
-    const { page } = this, format = find("format").value, turn = (this.turn = {});
-    const name = this.name(format), quality = Math.min(Math.max(find("quality").valueAsNumber || 90, 1), 100) / 100;
+    const { page } = this;
+    if (isDialogOpen() || !await page.endAllTyping()) {
+      return;
+    }
+    const format = find("format").value, turn = (this.turn = {}), shown = this.shownNow(format);
+    const quality = Math.min(Math.max(find("quality").valueAsNumber || 90, 1), 100) / 100;
     this.allow(false);
-    this.tell(`Making ${name} …`);
-    this.renderLosses();
-    find("preview-covers").textContent = coversInWords(page.edits);
+    this.tell(`Making ${shown.name} …`);
+    this.renderLosses(shown);
+    find("preview-covers").textContent = shown.covers;
     find("preview").showModal();
     try {
-      const { file, size } = await this.made(`image/${format}`, quality);
+      const file = await encoded(shown.bytes, shown.size[0], `image/${format}`, quality);
       const bitmap = await createImageBitmap(file);
       if (turn !== this.turn) {
-        return bitmap.close();
+        bitmap.close();
+        return;
       }
-      this.ready = { file, name, size };
-      this.sheet.show(bitmap, size, marksOf(page.edits, page.pixels));
-      this.tell(`${name} will have these ${size.join(" by ")} pixels.`);
+      this.ready = { ...shown, bytes: null, file };
+      this.tell(`${shown.name} will have these ${shown.size.join(" by ")} pixels.`);
+      this.sheet.show(bitmap, shown.size, shown.marks);
       this.allow(true);
       find("hand").focus();
     } catch (why) {
-      this.tell(`This browser can't save the picture: ${why.message}.`);
+      if (turn === this.turn) {
+        this.tell(`This browser can't save the picture: ${why.message}.`);
+      }
     }
-    return undefined;
   }
 
-  renderLosses() {
-    renderLosses(find("preview-losses"), this.page.losses, (it) => {
+  /** What the preview shows and says: pixels and words of the same moment. */
+  shownNow(format) {
+    const { page } = this, { edits, pixels, losses, found } = page;
+    const [bytes, size] = pixels.output((output, width, height) => [output.slice(), [width, height]]);
+    return {
+      bytes, size, losses, name: this.name(format), covers: coversInWords(edits), lost: page.lossesInWords,
+      dropped: droppedInWords(found), marks: marksOf(edits, pixels),
+    };
+  }
+
+  renderLosses({ losses }) {
+    renderLosses(find("preview-losses"), losses, (it) => {
       find("preview").close();
       this.page.bringBack(it);
       this.preview();
@@ -69,14 +81,16 @@ export class Saver {
     }
   }
 
-  /** Hands the file that is shown to the browser. Whether it was written, no page can know. */
+  /** Hands the file that is shown to the browser, once. Whether it was written, no page can know. */
   hand() {
     const { page, ready } = this;
     if (ready) {
+      this.ready = null;
+      this.allow(false);
       // (the page round this frame gives it to the browser: see frame.html)
       window.parent.postMessage({ file: ready.file, name: ready.name }, "*");
       const lines = [`${ready.name} was handed to your browser.`, WHERE, `${ready.size.join(" by ")} pixels.`];
-      page.say([...lines, coversInWords(page.edits), page.lossesInWords, droppedInWords(page.found)].filter(Boolean).join(" "));
+      page.say([...lines, ready.covers, ready.lost, ready.dropped].filter(Boolean).join(" "));
       page.settle();
       find("preview").close();
     }
@@ -100,17 +114,19 @@ export class Saver {
     return `${old}covered.${format === "jpeg" ? "jpg" : format}`;
   }
 
-  /** Puts the picture on the clipboard. */
+  /** Puts the picture that is shown on the clipboard. */
   async copy() {
-    const { page } = this;
-    this.tell("Copying …");
-    try {
-      const file = this.made("image/png").then((it) => it.file);
-      await navigator.clipboard.write([new ClipboardItem({ "image/png": file })]);
-      this.tell("Copied the picture, as PNG.");
-      page.say(`Copied the picture. ${coversInWords(page.edits)} ${page.lossesInWords}`.trim());
-    } catch (why) {
-      this.tell(`This browser doesn't let the page copy a picture: ${why.message}`);
+    const { page, ready } = this;
+    if (ready) {
+      this.tell("Copying …");
+      try {
+        const file = ready.file.type === "image/png" ? ready.file : encodedAgain(ready.file);
+        await navigator.clipboard.write([new ClipboardItem({ "image/png": file })]);
+        this.tell("Copied the picture, as PNG.");
+        page.say(`Copied the picture. ${ready.covers} ${ready.lost}`.trim());
+      } catch (why) {
+        this.tell(`This browser doesn't let the page copy a picture: ${why.message}`);
+      }
     }
   }
 }

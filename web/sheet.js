@@ -38,7 +38,10 @@ export class Sheet {
   }
 
   fitting() {
+    // (no scroll bar takes room then)
+    this.pane.style.overflow = "hidden";
     const [width, height] = this.size, { clientWidth, clientHeight } = this.pane;
+    this.pane.style.overflow = "";
     return Math.min(clientWidth / width, clientHeight / height, MOST_ENLARGED);
   }
 

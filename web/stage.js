@@ -13,6 +13,8 @@ const CORNERS = ["left top", "right top", "left bottom", "right bottom"];
 const SLACK = 4, BRUSH = 24;
 // How large a number on the picture is.
 const NUMBER_SIZE = 18;
+// How many pixels are read at a time, so that a large picture isn't in memory once more.
+const AT_A_TIME = 2 ** 20;
 const ARROWS = { ArrowLeft: [-1, 0], ArrowRight: [1, 0], ArrowUp: [0, -1], ArrowDown: [0, 1] };
 
 /** Whether an edit has a rectangle that can be moved on the picture. */
@@ -23,6 +25,8 @@ export function isOnStage(edit) {
 export class Stage {
   // (with the tool `select` a drag moves or resizes a rectangle; with every other one it draws, wherever it begins)
 
+  // (`isOpen` of the acts tells whether there is a picture)
+
   /** The `acts` are called with what a person does: `draw`, `change`, `select`, `remove`, `swipe`. `tool` gives the tool. */
   constructor(acts, tool) {
     Object.assign(this, { acts, tool, drag: null, edits: [], selected: -1, warned: [] });
@@ -31,7 +35,9 @@ export class Stage {
     }
     this.context = this.canvas.getContext("2d", { willReadFrequently: true });
     this.view = new View(() => this.render(this.edits, this.selected));
-    this.pointers = new Pointers(this.overlay, this.view, {
+    // (on all of the stage: a drag may begin in the grey beside the picture, and go over its edge)
+    this.pointers = new Pointers(this.stage, this.view, {
+      isOpen: acts.isOpen,
       begin: (event) => this.press(event), move: (event) => this.pull(event),
       end: (event) => this.release(event), cancel: () => this.cancel(), swipe: () => acts.swipe(),
     });
@@ -42,16 +48,18 @@ export class Stage {
     return this.view.scale;
   }
 
-  /** Shows a picture that the browser decoded, and returns its bytes. */
-  read(bitmap) {
-    const { canvas, context } = this;
-    [canvas.width, canvas.height] = [bitmap.width, bitmap.height];
+  /** Shows a picture that the browser decoded, and gives its bytes part by part, each with its place. */
+  read(bitmap, give) {
+    const { canvas, context } = this, { width, height } = bitmap, rows = Math.ceil(AT_A_TIME / width);
+    [canvas.width, canvas.height] = [width, height];
     context.drawImage(bitmap, 0, 0);
+    for (let top = 0; top < height; top += rows) {
+      give(context.getImageData(0, top, width, Math.min(rows, height - top)).data, 4 * width * top);
+    }
     this.overlay.setAttribute("viewBox", `0 0 ${canvas.width} ${canvas.height}`);
     this.frame.hidden = false;
     this.drop.hidden = true;
     this.view.fit();
-    return context.getImageData(0, 0, canvas.width, canvas.height).data;
   }
 
   /** Puts these rectangles of a picture's bytes on the screen. */
@@ -119,14 +127,20 @@ export class Stage {
     return this.view.turned.place([(event.clientX - box.left) / this.scale, (event.clientY - box.top) / this.scale]);
   }
 
+  // (or null, where the pointer was beside the picture all the time)
+
   /** The pixels from one place of a pointer to another: each that is under a pixel of the screen which it touched. */
   touched(from, to) {
     const most = [this.canvas.width, this.canvas.height];
     const inside = (value, axis) => Math.min(Math.max(value, 0), most[axis]);
-    const dot = this.view.turned.step([1 / this.scale, 1 / this.scale]), ends = (axis) => {
+    // (the wheel may have zoomed since it began)
+    const side = 1 / Math.min(this.scale, this.drag.scale), dot = this.view.turned.step([side, side]), ends = (axis) => {
       const both = [from[axis], to[axis]];
       return [...both, ...both.map((it) => it + dot[axis])];
     };
+    if (most.some((it, axis) => Math.max(...ends(axis)) <= 0 || Math.min(...ends(axis)) >= it)) {
+      return null;
+    }
     const begin = most.map((it, axis) => Math.min(inside(Math.floor(Math.min(...ends(axis))), axis), it - 1));
     const end = most.map((_, axis) => Math.max(inside(Math.ceil(Math.max(...ends(axis))), axis), begin[axis] + 1));
     return between(begin, end);
@@ -141,7 +155,10 @@ export class Stage {
 
   press(event) {
     const { index, corner } = this.under(event), from = this.at(event);
-    this.drag = { tool: this.tool(), index, from, places: [from], screen: [event.clientX, event.clientY] };
+    // (a stroke keeps the width that it begins with, however the picture is zoomed meanwhile)
+    this.drag = {
+      tool: this.tool(), index, from, places: [from], screen: [event.clientX, event.clientY], scale: this.scale, width: this.brushWidth()
+    };
     this.overlay.classList.add("drawing");
     // (the keys go to what is selected, and not to a button that was pressed before)
     this.stage.focus({ preventScroll: true });
@@ -165,7 +182,10 @@ export class Stage {
       this.paint(drag, event);
       return;
     }
-    drag.now = this.dragged(drag, this.at(event));
+    drag.now = this.dragged(drag, this.at(event)) ?? drag.now;
+    if (!drag.now) {
+      return;
+    }
     this.place(drag.group, drag.now);
     if (drag.old && covers(drag.old)) {
       drag.group.querySelector(".uncovers").setAttribute("d", outlineWithout(drag.old, drag.now));
@@ -174,7 +194,7 @@ export class Stage {
 
   /** A brush goes on. */
   paint(drag, event) {
-    drag.stroke ??= addDrawn(drag.group, "path", { class: "stroke", "stroke-width": this.brushWidth() });
+    drag.stroke ??= addDrawn(drag.group, "path", { class: "stroke", "stroke-width": drag.width });
     const events = event.getCoalescedEvents?.() ?? [];
     drag.places.push(...(events.length ? events : [event]).map((it) => this.at(it)));
     drag.now = drag.places;
@@ -214,7 +234,7 @@ export class Stage {
       this.acts.change(drag.index, drag.now);
     } else if (drag?.stroke) {
       const { width, height } = this.canvas;
-      const parts = strokeOf(drag.places, this.brushWidth(), width, height);
+      const parts = strokeOf(drag.places, drag.width, width, height);
       if (parts.length > 0) {
         this.acts.draw({ ...around(parts), parts });
       }

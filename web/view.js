@@ -33,10 +33,23 @@ export class View {
 
   /** Shows the whole picture. */
   fit() {
-    // (no scroll bar takes room then)
-    this.frame.style.width = this.frame.style.height = "0";
+    // (no scroll bar takes room then, whatever the size before)
+    this.stage.style.overflow = "hidden";
     this.resize(this.fitting());
+    this.stage.style.overflow = "";
     this.isFitting = true;
+  }
+
+  /** Whether a part of the picture isn't seen. */
+  get canScroll() {
+    const { scrollWidth, scrollHeight, clientWidth, clientHeight } = this.stage;
+    return scrollWidth > clientWidth || scrollHeight > clientHeight;
+  }
+
+  /** Whether a place of the window is inside the stage, and not on a scroll bar. */
+  hasPlace([x, y]) {
+    const box = this.stage.getBoundingClientRect();
+    return x - box.left < this.stage.clientWidth && y - box.top < this.stage.clientHeight;
   }
 
   fitting() {

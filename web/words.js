@@ -17,7 +17,7 @@ export function wordsOf(edit) {
     case "brush":
       return `${colourName(edit.colour)} brush, within ${place}`;
     case "means":
-      return `Mosaic of means, ${edit.tileWidth} by ${edit.tileHeight}, ${place}`;
+      return `Pixelated, ${edit.tileWidth} by ${edit.tileHeight}, ${place}`;
     case "mosaic":
       return `Mosaic of corners, ${edit.tileWidth} by ${edit.tileHeight}, ${place}`;
     case "move":

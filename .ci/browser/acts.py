@@ -1,4 +1,6 @@
 """The page in a browser: keys, undo, and files that reveal nothing of what is covered."""
+import random
+
 import tries
 from browser import png
 from browser.models import HEIGHT, PIXELS, WIDTH, by_model
@@ -15,6 +17,8 @@ HIDDEN = (
 )
 
 
+# How many lists are tried one after the other on one picture.
+TAKEN_BACK = 40
 # Keys that are pressed one after the other, and the rectangle then.
 KEYS = (
     (("Right",), "23,15,15,10"),
@@ -105,6 +109,30 @@ def check_undo(page):
         "a new edit ends what could be redone",
         page.browser.run("return document.getElementById('redo').disabled")
     )
+
+
+def edit_by_chance(chance):
+    """A line that changes a rectangle, which overlaps most others."""
+    width, height = chance.randint(8, 40), chance.randint(8, 30)
+    left, top = chance.randint(0, WIDTH - width), chance.randint(0, HEIGHT - height)
+    window = f"{left},{top},{width},{height}"
+    return chance.choice((
+        f"fill {window} {chance.randint(0, 255)}", f"means {window} {chance.randint(2, 9)},{chance.randint(2, 9)}",
+        f"mosaic {window} {chance.randint(2, 9)},{chance.randint(2, 9)}",
+        f"move {window} {chance.randint(0, WIDTH - width)},{chance.randint(0, HEIGHT - height)}",
+    ))
+
+
+def check_taken_back(page):
+    """Lists of edits that overlap, one after the other on one picture: what the next list lacks is taken back exactly."""
+    chance, lines, wrong = random.Random("taken back"), [], []
+    page.open()
+    for _ in range(TAKEN_BACK):
+        lines = [*lines[:chance.randint(0, len(lines))], *(edit_by_chance(chance) for _ in range(chance.randint(1, 4)))]
+        page.apply("\n".join(lines))
+        if png.ppm_of(page.save()) != by_model(" ".join(lines).split()):
+            wrong.append(lines)
+    page.count(f"{TAKEN_BACK} lists that overlap: each is that of the model", wrong == [], wrong[:1])
 
 
 def exchanged(pixels, window):

@@ -52,7 +52,7 @@ def check_next_tool(page):
     page.count("another colour of the tool leaves it too", page.list() == f"{SECRET}\n")
     page.browser.change("colour", "#000000")
     page.browser.click("#edits button")
-    wanted = [f"Change 'Black, 20 by 12 at 20, 10' to a {it}" for it in ("mosaic of means", "crop")]
+    wanted = [f"Change 'Black, 20 by 12 at 20, 10' to a {it}" for it in ("pixelated one", "crop")]
     page.count("buttons say what they change", page.browser.run(CHANGES) == wanted, page.browser.run(CHANGES))
     page.browser.run("document.querySelector('#changes [data-word=mosaic]').click()")
     page.count("one of them changes the cover", page.list() == "means 20,10,20,12 4,4\n")

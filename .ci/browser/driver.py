@@ -34,14 +34,15 @@ KEYS = {
 }
 FLAGS = (
     "--headless=new", "--no-sandbox", "--disable-gpu", "--window-size=1280,1200",
-    "--hide-scrollbars", "--force-device-scale-factor=1", "--disable-background-networking",
+    "--force-device-scale-factor=1", "--disable-background-networking",
     # (the frame of the page in the process of its page, so that what the driver emulates holds in it)
     "--disable-features=IsolateSandboxedIframes",
 )
 FIREFOXES = ("firefox-esr", "firefox")
 FIREFOX_FLAGS = ("--headless", "--no-remote", "--marionette", "--remote-allow-system-access")
-# A free port, the folder for files, and nothing that asks, looks for anything or takes the keys from the page.
+# A free port, the folder for files, scroll bars that take room, and nothing that asks, looks for anything or takes the keys from the page.
 FIREFOX_SETTINGS = {
+    "widget.gtk.overlay-scrollbars.enabled": False,
     "marionette.port": 0, "browser.download.folderList": 2, "browser.download.useDownloadDir": True,
     "browser.download.always_ask_before_handling_new_types": False, "browser.download.alwaysOpenPanel": False, "browser.shell.checkDefaultBrowser": False,
     "datareporting.policy.dataSubmissionEnabled": False, "app.update.enabled": False, "app.normandy.enabled": False,
@@ -54,7 +55,7 @@ FIREFOX_SETTINGS = {
 FIREFOX_COMMANDS = {
     "/url": "Navigate", "/frame": "SwitchToFrame", "/execute/sync": "ExecuteScript", "/execute/async": "ExecuteAsyncScript",
     "/element": "FindElement", "/element/click": "ElementClick", "/element/value": "ElementSendKeys",
-    "/actions": "PerformActions", "/screenshot": "TakeScreenshot",
+    "/actions": "PerformActions", "/screenshot": "TakeScreenshot", "/print": "Print",
 }
 DOWNLOADS = """const done = arguments[0], { Downloads } = ChromeUtils.importESModule("resource://gre/modules/Downloads.sys.mjs");
 Downloads.getList(Downloads.ALL).then((it) => it.getAll()).then((all) => done(all.map((it) => [it.target.path, it.succeeded])));"""
@@ -77,7 +78,8 @@ def found(names):
 
 class Session:
     """What is done in a browser. Its `ask` carries out a command of WebDriver."""
-    is_inside, next_save, folder = False, 0, None
+    # (whether a test may read the clipboard)
+    is_inside, next_save, folder, can_copy = False, 0, None, False
 
     def ask(self, method, path, body=None):
         raise NotImplementedError
@@ -157,6 +159,15 @@ class Session:
     def text(self, selector):
         return self.run("return document.querySelector(arguments[0]).textContent", selector)
 
+    def printed(self):
+        """The page as it is printed to a file of PDF."""
+        inside = self.is_inside
+        self.enter(None)
+        data = base64.b64decode(self.ask("POST", "/print", {"background": True}))
+        if inside:
+            self.enter()
+        return data
+
     def screenshot(self):
         return base64.b64decode(self.ask("GET", "/screenshot"))
 
@@ -181,8 +192,16 @@ class Session:
 
 class Browser(Session):
     """A session of Chromium."""
+    can_copy = True
 
-    def __init__(self, driver, program, folder):
+    def hold_enter(self, count):
+        """Enter is held: it comes so often again."""
+        key = {"key": "Enter", "code": "Enter", "windowsVirtualKeyCode": 13, "text": "\r"}
+        for at in range(count):
+            self.devtools("Input.dispatchKeyEvent", type="keyDown", autoRepeat=at > 0, **key)
+        self.devtools("Input.dispatchKeyEvent", type="keyUp", key="Enter", code="Enter", windowsVirtualKeyCode=13)
+
+    def __init__(self, driver, program, folder, flags=()):
         self.port_file, self.folder = folder / "driver.log", folder
         self.log = open(self.port_file, "w", encoding="utf-8")
         self.process = subprocess.Popen(
@@ -191,7 +210,7 @@ class Browser(Session):
         try:
             self.base = f"http://127.0.0.1:{until(self.port)}"
             wanted = {"goog:loggingPrefs": {"performance": "ALL", "browser": "ALL"},
-                      "goog:chromeOptions": {"binary": program, "args": list(FLAGS)}}
+                      "goog:chromeOptions": {"binary": program, "args": [*FLAGS, *flags], "excludeSwitches": ["hide-scrollbars"]}}
             made = self.ask("POST", "/session", {"capabilities": {"alwaysMatch": wanted}})
             self.base += f"/session/{made['sessionId']}"
         except BaseException:
@@ -260,8 +279,8 @@ def until(tells, what=""):
 class Firefox(Session):
     """A session of Firefox, over its protocol: texts of JSON, each with its length before it, on a port of this machine."""
 
-    def __init__(self, program, folder):
-        self.folder, self.count, self.left = folder / "saved", 0, b""
+    def __init__(self, program, folder, more):
+        self.folder, self.count, self.left, self.more_settings = folder / "saved", 0, b"", more
         room = folder / "profile"
         room.mkdir()
         self.folder.mkdir()
@@ -281,7 +300,7 @@ class Firefox(Session):
             raise
 
     def settings(self):
-        return {**FIREFOX_SETTINGS, "browser.download.dir": str(self.folder)}
+        return {**FIREFOX_SETTINGS, "browser.download.dir": str(self.folder), **self.more_settings}
 
     def end(self):
         with contextlib.suppress(OSError, RuntimeError):
@@ -333,6 +352,11 @@ class Firefox(Session):
         # (its places are those in the frame)
         return 0, 0
 
+    def hold_enter(self, count):
+        """Enter is held: it comes so often again."""
+        acts = [*[{"type": "keyDown", "value": KEYS["Enter"]}] * count, {"type": "keyUp", "value": KEYS["Enter"]}]
+        self.ask("POST", "/actions", {"actions": [{"type": "key", "id": "keys", "actions": acts}]})
+
     def downloads(self):
         """The list of downloads that a person sees: each with its path, and whether it is complete."""
         self.send("Marionette:SetContext", {"value": "chrome"})
@@ -343,15 +367,16 @@ class Firefox(Session):
 
 
 @contextlib.contextmanager
-def firefox(cases, label):
-    """Firefox until the end of the block, or None where this machine lacks it: then what needs it is skipped."""
+def firefox(cases, label, settings=None):
+    """Firefox until the end of the block, with these settings besides its own, or None where this machine lacks it: then what needs it
+    is skipped."""
     program = found(FIREFOXES)
     if not program:
         cases.skip(label, "firefox-esr")
         yield None
         return
     with tempfile.TemporaryDirectory(prefix="firefox-", ignore_cleanup_errors=True) as room:
-        made = Firefox(program, pathlib.Path(room))
+        made = Firefox(program, pathlib.Path(room), settings or {})
         try:
             yield made
         finally:
@@ -359,15 +384,16 @@ def firefox(cases, label):
 
 
 @contextlib.contextmanager
-def browser(cases, label):
-    """A browser until the end of the block, or None where this machine lacks one or its driver: then what needs it is skipped."""
+def browser(cases, label, *flags):
+    """A browser until the end of the block, with these flags besides its own, or None where this machine lacks one or its driver: then
+    what needs it is skipped."""
     program, driver = found(BROWSERS), found(DRIVERS)
     if not program or not driver:
         cases.skip(label, *(name for name, it in (("chromium", program), ("chromium-driver", driver)) if not it))
         yield None
         return
     with tempfile.TemporaryDirectory(prefix="browser-", ignore_cleanup_errors=True) as room:
-        made = Browser(driver, program, pathlib.Path(room))
+        made = Browser(driver, program, pathlib.Path(room), flags)
         try:
             yield made
         finally:

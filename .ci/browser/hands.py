@@ -14,14 +14,15 @@ TRIES = 5
 
 
 def check_fingers(page):
-    """A swipe draws nothing, a hold does, a second finger ends what the first began, and two zoom."""
+    """A swipe draws where nothing can be scrolled, and else scrolls. A hold draws, a second finger ends what the first began, two zoom."""
     page.browser.devtools("Emulation.setDeviceMetricsOverride", **looks.PHONE)
     page.browser.devtools("Emulation.setTouchEmulationEnabled", enabled=True, maxTouchPoints=2)
     page.start()
     page.open(png.by_chance(*SIZE, "hands"), *SIZE)
     steps = [move_to(it) | {"duration": 20} for it in page.on_screen((150, 300), (160, 260), (170, 200), (180, 100))]
-    well = swipes(page, steps) and "Hold a finger still" in page.status()
-    page.count("a swipe draws nothing, and the page says how to draw", well)
+    page.browser.act([steps[0], DOWN, *steps[1:], UP], "touch")
+    page.count("a swipe draws where nothing can be scrolled", page.list().startswith("fill ") and page.list().count("\n") == 1)
+    page.browser.run("document.getElementById('undo').click()")
     page.browser.act([move_to((340, place)) | {"duration": 20} if place else it for place, it in SWIPE], "touch")
     until(lambda: page.browser.run("return document.getElementById('side').scrollTop") > 0)
     page.count("a swipe on the tools scrolls them", page.list() == "")
@@ -32,7 +33,7 @@ def check_fingers(page):
         page.browser.press("+")
     before = scrolled(page)
     well = swipes(page, steps)
-    page.count("a swipe on a zoomed picture scrolls it", well and scrolled(page) != before)
+    page.count("a swipe on a zoomed picture scrolls it, draws nothing, and the page says how to draw", well and scrolled(page) != before and "Hold a finger still" in page.status())
     page.browser.press("0")
     one = [move_to(it) for it in page.on_screen((100, 200), (100, 150), (100, 100))]
     two = [move_to(it) for it in page.on_screen((200, 250), (220, 300), (250, 380))]

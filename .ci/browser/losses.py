@@ -170,7 +170,7 @@ def check_seen(page):
     fields = page.browser.run(names)
     page.count("turned right: the fields are as it is seen", fields == "20,10,12,20,6,5", fields)
     words = page.browser.text("#edits button span")
-    page.count("and the list", words == "Mosaic of means, 6 by 5, 12 by 20 at 20, 10", words)
+    page.count("and the list", words == "Pixelated, 6 by 5, 12 by 20 at 20, 10", words)
     page.browser.change("left", "21")
     page.count("a field moves it as it is seen", page.list() == "means 10,7,20,12 5,6\nturn right\n")
     page.browser.change("own-tile-width", "7")

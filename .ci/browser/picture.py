@@ -81,9 +81,13 @@ class Page:
         path = self.browser.folder / name
         path.write_bytes(data)
         self.browser.type("#file", str(path))
+        self.go_on()
+        return until(lambda: self.status() if not self.status().startswith("Opening") else "")
+
+    def go_on(self):
+        """Where the page asks, what isn't saved or applied is left out."""
         if self.browser.run("return document.getElementById('ask').open"):
             self.browser.run("document.getElementById('discard').click()")
-        return until(lambda: self.status() if not self.status().startswith("Opening") else "")
 
     def fresh(self, name, data):
         """The same, where an earlier word of the page doesn't count."""
@@ -121,6 +125,7 @@ class Page:
     def preview(self):
         """Shows the file that would be saved."""
         self.browser.run("document.getElementById('save').click()")
+        self.go_on()
         until(lambda: self.browser.run("return !document.getElementById('hand').disabled"), "for the preview")
 
     def save(self, name="covered.png"):

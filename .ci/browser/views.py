@@ -149,7 +149,7 @@ def check_copied(page):
     """The result goes to the clipboard, and an edit's line is in words."""
     page.open()
     page.apply("fill 10,8,20,12 200,30,7\nmeans 0,0,9,9 4,4\ncrop 1,1,50,30")
-    words = ["Red 200 green 30 blue 7, 20 by 12 at 10, 8", "Mosaic of means, 4 by 4, 9 by 9 at 0, 0", "Crop to 50 by 30 at 1, 1"]
+    words = ["Red 200 green 30 blue 7, 20 by 12 at 10, 8", "Pixelated, 4 by 4, 9 by 9 at 0, 0", "Crop to 50 by 30 at 1, 1"]
     page.count("the lines are in words", page.browser.run(LINES) == words, page.browser.run(LINES))
     page.browser.enter(None)
     page.browser.devtools("Browser.grantPermissions", permissions=["clipboardReadWrite", "clipboardSanitizedWrite"])

@@ -147,6 +147,101 @@ static void widths_of_no_colours() {
     check("flip_rows counts a window in colours", pixels == std::array<std::uint8_t, 14>{1, 2, 3, 11, 12, 13, 7, 8, 9, 10, 4, 5, 6, 14});
 }
 
+// A view of colours counts in colours in each call: no channel of one pixel comes into another.
+static void views_of_colours() {
+    using namespace imgref;
+    std::array<std::uint8_t, 14> bytes{1, 2, 3, 4, 5, 6, 90, 7, 8, 9, 10, 11, 12, 91};
+    auto image = colours<3>(bytes, 2, 2, 7);
+    static_assert(std::is_same_v<decltype(image), colour_view<std::uint8_t, 3>> && decltype(image)::channels() == 3);
+    using cells = std::array<std::uint8_t, 14>;
+    using rgb = std::array<std::uint8_t, 3>;
+    check("colours: sizes and pixels", image.width() == 2 && image.height() == 2 && image.stride() == 7 && image.get(1, 1) == rgb{10, 11, 12} && image.whole().width == 2 && image.elements().width() == 6);
+    image.flip_columns();
+    check("colours: flip_columns", bytes == cells{4, 5, 6, 1, 2, 3, 90, 10, 11, 12, 7, 8, 9, 91});
+    image.turn(turn::half);
+    check("colours: turn by a half", bytes == cells{7, 8, 9, 10, 11, 12, 90, 1, 2, 3, 4, 5, 6, 91});
+    image.turn(turn::right);
+    check("colours: turn", bytes == cells{1, 2, 3, 7, 8, 9, 90, 4, 5, 6, 10, 11, 12, 91});
+    image.transpose();
+    image.swap_rows(0, 1);
+    image.flip_rows();
+    check("colours: transpose, swap_rows, flip_rows", bytes == cells{1, 2, 3, 4, 5, 6, 90, 7, 8, 9, 10, 11, 12, 91});
+    image.put(0, 1, {20, 21, 22});
+    image.fill({1, 0, 1, 2}, {30, 31, 32});
+    check("colours: put, fill, count", bytes == cells{1, 2, 3, 30, 31, 32, 90, 20, 21, 22, 30, 31, 32, 91} && image.count(image.whole(), {30, 31, 32}) == 2);
+    image.window({1, 1, 1, 1}).fill({0, 0, 1, 1}, {40, 41, 42});
+    image.move({1, 1, 1, 1}, {0, 0, 1, 1});
+    check("colours: window, move", bytes == cells{40, 41, 42, 30, 31, 32, 90, 20, 21, 22, 40, 41, 42, 91});
+    image.window({0, 0, 1, 2}).copy(image.window({1, 0, 1, 2}));
+    check("colours: copy of a half", bytes == cells{30, 31, 32, 30, 31, 32, 90, 40, 41, 42, 40, 41, 42, 91});
+    image.mosaic(image.whole(), 2, 2);
+    check("colours: mosaic", bytes == cells{30, 31, 32, 30, 31, 32, 90, 30, 31, 32, 30, 31, 32, 91});
+    image.put(0, 0, {34, 31, 32});
+    image.mosaic_means(image.whole(), 2, 2);
+    check("colours: mosaic_means", bytes == cells{31, 31, 32, 31, 31, 32, 90, 31, 31, 32, 31, 31, 32, 91});
+    image.put(0, 0, {1, 2, 3});
+    std::array<std::uint8_t, 12> room{};
+    auto target = colours<3>(room, 2, 2);
+    colour_view<const std::uint8_t, 3> reading = image;
+    reading.turn_into(target, turn::half);
+    check("colours: turn_into, transpose_into", target.get(1, 1) == rgb{1, 2, 3} && (reading.transpose_into(target), target.get(0, 0) == rgb{1, 2, 3}) && target == reading);
+    std::size_t tiles = 0;
+    for (rect it : image.tiles(1, 2)) tiles += it.width;
+    image.pack();
+    check("colours: tiles, pack", tiles == 2 && image.stride() == 6 && target == image);
+    check("colours: refusals", is_refused(IMGREF_NOT_AN_IMAGE, [&] { colours<3>(room, 3, 2); }) && is_refused(IMGREF_NOT_AN_IMAGE, [&] { colour_view<std::uint8_t, 3>(view(room, 4, 3)); }) &&
+                                   is_refused(IMGREF_PLACE_OUTSIDE, [&] { image.get(2, 0); }) && is_refused(IMGREF_PLACE_OUTSIDE, [&] { image.put(0, 2, {1, 2, 3}); }) &&
+                                   is_refused(IMGREF_WINDOW_OUTSIDE, [&] { image.fill({1, 0, 2, 1}, {1, 2, 3}); }) && is_refused(IMGREF_WINDOW_OUTSIDE, [&] { image.window({static_cast<std::size_t>(-1), 0, 1, 1}); }) &&
+                                   is_refused(IMGREF_SIZES_DIFFER, [&] { image.turn_into(colours<3>(room, 1, 2), turn::half); }) && is_refused(IMGREF_NOT_AN_IMAGE, [&] { colours<3>(room, static_cast<std::size_t>(-1), 1); }));
+}
+
+// Each pair of windows of one image of 5 by 4: those that share no pixel are copied, and the others are refused.
+static void halves() {
+    using namespace imgref;
+    std::vector<rect> windows;
+    for (std::size_t x = 0; x < 5; ++x)
+        for (std::size_t y = 0; y < 4; ++y)
+            for (std::size_t w : {1, 2, 3})
+                for (std::size_t h : {1, 2, 4})
+                    if (x + w <= 5 && y + h <= 4) windows.push_back({x, y, w, h});
+    bool is_well = true;
+    unsigned copied = 0, kept = 0;
+    for (const rect &to : windows)
+        for (const rect &from : windows) {
+            if (to.width != from.width || to.height != from.height) continue;
+            std::array<std::uint16_t, 28> cells{};
+            for (std::size_t k = 0; k < cells.size(); ++k) cells[k] = static_cast<std::uint16_t>(k);
+            auto due = cells;
+            const bool is_apart = to.left + to.width <= from.left || from.left + from.width <= to.left || to.top + to.height <= from.top || from.top + from.height <= to.top;
+            if (is_apart)
+                for (std::size_t y = 0; y < to.height; ++y)
+                    for (std::size_t x = 0; x < to.width; ++x) due[(to.top + y) * 7 + to.left + x] = cells[(from.top + y) * 7 + from.left + x];
+            view image(cells, 5, 4, 7);
+            const bool is_kept = is_invalid([&] { image.copy(to, image.window(from)); });
+            is_well = is_well && is_kept != is_apart && cells == due;
+            ++(is_apart ? copied : kept);
+        }
+    check("windows of one image that share no pixel are copied onto each other", is_well && copied > 100 && kept > 100);
+    std::array<std::uint8_t, 16> cells{0, 1, 2, 3, 4, 5, 6, 7, 8, 9, 10, 11, 12, 13, 14, 15};
+    check("columns that go on in the next row", is_invalid([&] { view(cells.data(), 16, 2, 3, 4).copy(view<const std::uint8_t>(cells.data() + 3, 13, 2, 3, 4)); }) && cells[4] == 4);
+    check("no copy of another size", is_refused(IMGREF_SIZES_DIFFER, [&] { view image(cells, 4, 4); image.copy({0, 0, 2, 2}, image.window({2, 0, 2, 3})); }) && is_refused(IMGREF_WINDOW_OUTSIDE, [&] { view image(cells, 4, 4); image.copy({3, 0, 2, 2}, image.window({2, 0, 2, 2})); }));
+}
+
+// Rectangles of other integers: no number below 0 is inside.
+static void rectangles_of_integers() {
+    using namespace imgref;
+    std::array<std::uint8_t, 6> pixels{};
+    view image(pixels, 3, 2);
+    int x = 1, y = 0, w = 2, h = 1, before = -1;
+    long long large = 1LL << 40;
+    image.fill({x, y, w, h}, {7});
+    image.fill({0, 1u, std::size_t(1), h}, {8});
+    check("rectangles of int", pixels == std::array<std::uint8_t, 6>{0, 7, 7, 8, 0, 0});
+    check("rectangles of numbers below 0", is_refused(IMGREF_WINDOW_OUTSIDE, [&] { image.fill({before, y, w, h}, {9}); }) && is_refused(IMGREF_WINDOW_OUTSIDE, [&] { image.fill({x, before, w, h}, {9}); }) &&
+                                               is_refused(IMGREF_WINDOW_OUTSIDE, [&] { image.fill({x, y, before, h}, {9}); }) && is_refused(IMGREF_WINDOW_OUTSIDE, [&] { image.fill({x, y, w, before}, {9}); }) &&
+                                               is_refused(IMGREF_WINDOW_OUTSIDE, [&] { image.fill({before, y, 0, 0}, {9}); }) && is_refused(IMGREF_WINDOW_OUTSIDE, [&] { image.fill({large, y, w, h}, {9}); }));
+}
+
 // What is taken as a pixel: a type that loses nothing, a constant in braces, and from C++20 on a constant.
 static void values() {
     using namespace imgref;
@@ -209,6 +304,11 @@ static void turns() {
     check("colours are turned whole in place", room == std::array<std::uint8_t, 6>{4, 5, 6, 1, 2, 3});
     check("no turn in place", is_refused(IMGREF_SIZES_DIFFER, [&] { strip.turn(turn::left); }) && is_refused(IMGREF_SIZES_DIFFER, [&] { strip.transpose(3); }) &&
                                   is_refused(IMGREF_NO_TURN, [&] { square.turn(turn{0}); }) && room[0] == 4 && pixels[0] == 3);
+    try {
+        strip.turn(turn::left);
+    } catch (const refused &why) {
+        check("no turn in place: the text says what to do", std::string(why.what()).find("turn_into") != std::string::npos);
+    }
     check("no turn", is_refused(IMGREF_SIZES_DIFFER, [&] { image.turn_into(flat, turn::right); }) && is_refused(IMGREF_NO_TURN, [&] { image.turn_into(flat, turn{4}); }) &&
                          is_refused(IMGREF_SIZES_DIFFER, [&] { image.transpose_into(flat); }) && is_invalid([&] { image.turn_into(image, turn::half); }));
     check("no flip", is_refused(IMGREF_WINDOW_OUTSIDE, [&] { image.flip_rows({2, 0, 2, 2}); }) && is_refused(IMGREF_WINDOW_OUTSIDE, [&] { image.flip_columns({0, 1, 1, 2}); }) &&
@@ -300,6 +400,9 @@ int main() {
     empty_images();
     pixels_of_several();
     widths_of_no_colours();
+    views_of_colours();
+    halves();
+    rectangles_of_integers();
     values();
     turns();
     values_and_sums();

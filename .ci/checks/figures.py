@@ -162,7 +162,7 @@ def git(*words):
 def ages(cases):
     """The commit of each page, and how many have changed the timed crates since."""
     if git("rev-parse", "--is-shallow-repository") != "false":
-        cases.skip("the commits of figures", "history", number=len(PAGES))
+        cases.skip("the commits of figures", "history" if shutil.which("git") else "git", number=len(PAGES))
         cases.count("the pages with figures are there", all((ROOT / it).is_file() for it in PAGES))
         return
     for page, timed in PAGES.items():

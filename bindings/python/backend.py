@@ -66,6 +66,8 @@ def library():
 
 def compile_native(room):
     """The compiled module, in a folder."""
+    if sys.version_info < (3, 10):
+        raise Failure(f"the package needs CPython 3.10 or later, and this is {sys.version.split()[0]}")
     headers = [pathlib.Path(sysconfig.get_path(it)) for it in ("include", "platinclude")]
     if not (headers[0] / "Python.h").is_file():
         raise Failure(f"the headers of Python aren't installed in {headers[0]}: apt-get install python3-dev")

@@ -513,11 +513,14 @@ static bool as_alike(const Cells *it, const Cells *other, image *i, image *o) {
 }
 
 /* The same, where the one is written from the other. */
+static bool are_written(const Cells *it, const Cells *other, image *i, image *o) { return is_written(it) && as_alike(it, other, i, o); }
+
+static PyObject *same_memory(void) {
+    return PyErr_Format(PyExc_ValueError, "both images have the same memory: move_window goes within one image, and copy() gives other memory");
+}
+
 static bool are_apart(const Cells *it, const Cells *other, image *i, image *o) {
-    if (!is_written(it) || !as_alike(it, other, i, o)) return false;
-    if (!images_overlap(i, o)) return true;
-    PyErr_SetString(PyExc_ValueError, "both images have the same memory: move_window goes within one image, and copy() gives other memory");
-    return false;
+    return are_written(it, other, i, o) && (!images_overlap(i, o) || same_memory() != NULL);
 }
 
 CALL(call_copy) {
@@ -525,8 +528,12 @@ CALL(call_copy) {
     size_t n[4];
     image i, o;
     Cells *it = first_in(given, count, 3), *other = it ? cells_in(given[2]) : NULL;
-    if (!other || !window_in(given[1], n) || !are_apart(it, other, &i, &o)) return NULL;
-    UNLOCKED(IN(n), image_copy(&i, window_of(n), &o))
+    if (!other || !window_in(given[1], n) || !are_written(it, other, &i, &o)) return NULL;
+    image part;
+    const bool is_inside = image_window(&i, window_of(n), &part) == IMGREF_OK, is_within = is_inside && images_overlap(&i, &o);
+    if (is_within && (part.width != o.width || part.height != o.height)) return REFUSED(IMGREF_SIZES_DIFFER, "source", n[2], n[3], SIZE(&o));
+    if (is_within && !images_apart(&part, &o)) return same_memory();
+    UNLOCKED(IN(n), is_within ? image_copy_rows(&part, &o) : image_copy(&i, window_of(n), &o))
     if (status == IMGREF_SIZES_DIFFER) return REFUSED(status, "source", n[2], n[3], SIZE(&o));
     return done_in(&i, status, n);
 }
@@ -672,7 +679,8 @@ static size_t *room_of(const image *i) {
     return room;
 }
 
-/* It keeps Python's lock: were pixels written meanwhile, a place could be pending twice, and the room too small. */
+/* It keeps Python's lock, so that no other thread of Python writes pixels meanwhile. (Where another process does, the library
+ * writes nothing outside.) */
 CALL(call_flood_fill) {
     (void)module;
     size_t n[2], *room;
@@ -885,7 +893,9 @@ static PyMethodDef calls[] = {
 
 static PyModuleDef definition = {PyModuleDef_HEAD_INIT, "imgref._native", "The calls of the library on memory that is held.", -1, calls, NULL, NULL, NULL, NULL};
 
+/* (the types are those of the process, so a subinterpreter would take those of the main interpreter away) */
 PyMODINIT_FUNC PyInit__native(void) {
+    if (PyInterpreterState_GetID(PyInterpreterState_Get())) return PyErr_Format(PyExc_ImportError, "no subinterpreter");
     cells_type = (PyTypeObject *)PyType_FromSpec(&cells_spec);
     holder_type = (PyTypeObject *)PyType_FromSpec(&holder_spec);
     PyObject *module = cells_type && holder_type ? PyModule_Create(&definition) : NULL;

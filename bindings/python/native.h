@@ -117,9 +117,37 @@ static bool images_overlap(const image *i, const image *o) {
     return i->cells < o->cells + o->len * o->size && o->cells < i->cells + i->len * i->size;
 }
 
+/* Whether no pixel of two images is one of the other's, as far as equal strides tell it. The one that begins first has its columns
+ * in front, and the other begins so many rows and bytes after it. */
+static bool images_apart(const image *i, const image *o) {
+    if (!i->width || !i->height || !o->width || !o->height || !images_overlap(i, o)) return true;
+    const image *first = i->cells <= o->cells ? i : o, *second = first == i ? o : i;
+    const size_t stride = i->stride * i->size, away = second->cells - first->cells;
+    if (stride != o->stride * o->size) return false;
+    const size_t rows = away / stride, bytes = away % stride;
+    return (bytes >= first->width * first->size || rows >= first->height) &&
+           (second->width * second->size <= stride - bytes || rows + 1 >= first->height);
+}
+
+/* A row of an image, as an image. */
+static image row_of(const image *i, size_t y) {
+    image made = {i->cells + y * i->stride * i->size, i->width, i->width, 1, i->width ? i->width : 1, i->size, i->step};
+    return made;
+}
+
 /* Both images have cells of one size, and share no memory: the caller tests it. */
 #define COPY(NAME, TYPE) imgref_##NAME##_copy_window(LAYOUT(TYPE, i), in_cells(i, window), LAYOUT(TYPE, o))
 static imgref_status image_copy(const image *i, imgref_rect window, const image *o) { BY_SIZE(COPY) }
+
+/* The same between two images of one size whose rows alternate in memory, and that share no pixel. */
+static imgref_status image_copy_rows(const image *i, const image *o) {
+    imgref_status status = IMGREF_OK;
+    for (size_t y = 0; y < i->height && i->width && status == IMGREF_OK; y++) {
+        const image to = row_of(i, y), from = row_of(o, y);
+        status = image_copy(&to, whole(&to), &from);
+    }
+    return status;
+}
 
 #define MOVE(NAME, TYPE) imgref_##NAME##_move_window(LAYOUT(TYPE, i), in_cells(i, from), in_cells(i, to))
 static imgref_status image_move(const image *i, imgref_rect from, imgref_rect to) { BY_SIZE(MOVE) }

@@ -270,6 +270,7 @@ def by_report(cases, program):
         said = ends(program, ["--boxes", f"{room}/boxes.txt", "--margin", "1", "--report", f"{room}/report.csv"], pictures)
         text = (pathlib.Path(room) / "report.csv").read_text()
     cases.count("the report of pictures of several sizes", said[2] == 0 and text == "1,2,2,6,6\n2,2,2,6,6\n3,2,2,2,2\n4,2,2,6,6\n", f"{said[1:]} {text}")
+    by_moved(cases, program)
     data = video(b"mono")
     for name, status in (("/nowhere/report.csv", 5), ("/", 5)):
         said, all_lines = run(program, ["1,1,2,2,4,4"], ["--report", name], data)
@@ -278,6 +279,27 @@ def by_report(cases, program):
     cases.count("a report and an output of one name are refused", said == (b"", "fault words", 1) and all_lines[1] == "the report and the output need two names", str(all_lines[:2]))
     said, all_lines = run(program, ["1,1,2,2,4,4"], ["--report", "-"], data)
     cases.count("a report needs a name", said == (b"", "fault words", 1) and all_lines[1] == "--report needs the name of a file", str(all_lines[:2]))
+
+
+def by_moved(cases, program):
+    """The report has the places of the output: after flips, turns, a crop or a border all its rectangles are black there."""
+    data = video(b"mono")
+    for words, size, keeps in (
+        ("flip rows", (13, 9), True), ("flip columns", (13, 9), True), ("turn half", (13, 9), True), ("2..5 flip columns 4.. flip rows", (13, 9), True),
+        ("turn right", (9, 13), True), ("turn left", (9, 13), True), ("flip rows turn left", (9, 13), True), ("pad 3,2,1,4 99", (17, 15), True), ("crop 2,1,7,5", (7, 5), False),
+        ("flip columns crop 4,2,9,7", (9, 7), False), ("cover 0,0,3,2+0 flip columns cover 0,0,3,2+0", (13, 9), True),
+    ):  # fmt: skip
+        with tempfile.TemporaryDirectory() as room:
+            (pathlib.Path(room) / "boxes.txt").write_text("".join(f"{it},1,{it},1,3,2\n" for it in range(1, 9)))
+            listed = ["--boxes", f"{room}/boxes.txt", "--margin", "0"]
+            out, said, status = ends(program, [*listed, "--report", f"{room}/report.csv", *words.split()], data)
+            ends(program, [*listed, "--report", f"{room}/plain.csv", *(words.split() if words.startswith("cover") else [])], data)
+            rows, plain = ([[int(it) for it in row.split(",")] for row in (pathlib.Path(room) / it).read_text().splitlines()] for it in ("report.csv", "plain.csv"))
+        start, cells = out.index(b"\n") + 1, size[0] * size[1]
+        frames = [out[at + 6:at + 6 + cells] for at in range(start, len(out), 6 + cells)]
+        wrong = [row for row in rows if row[1] + row[3] > size[0] or row[2] + row[4] > size[1] or any(frames[row[0] - 1][y * size[0] + x] != 16 for y in range(row[2], row[2] + row[4]) for x in range(row[1], row[1] + row[3]))]
+        areas = [sum(row[3] * row[4] for row in it) for it in (rows, plain)]
+        cases.count(f"the report has the places of the output after {words}", status == 0 and rows and not wrong and (areas[0] == areas[1] if keeps else areas[0] < areas[1]), f"{said} {wrong[:5]} {areas}")
 
 
 def by_edges(cases, program):

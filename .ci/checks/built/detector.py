@@ -148,6 +148,37 @@ def by_review(cases, folder):
     cases.count("a sheet shows each frame with its covers outlined", done.returncode == 0 and (wide, high) == (5 * WIDTH, 5 * (HEIGHT + 16)) and 0 < red <= borders and len({row[0] for row in rows}) == FRAMES, f"{wide} {high} {red} of {borders}: {done.stderr}")
 
 
+def by_sheets(cases, python):
+    """Sheets of any size, over those of an earlier run. What can't be done is said in a line."""
+    review = [python, ROOT / "examples/review.py", "out.y4m", "covers.csv"]
+
+    def tried(data, sheet="sheet.png", report="1,0,0,1,1\n", names=(), words=()):
+        with tempfile.TemporaryDirectory() as folder:
+            for name, text in {"out.y4m": data, "covers.csv": report.encode(), **{it: b"an old one" for it in names}}.items():
+                pathlib.Path(folder, name).write_bytes(text)
+            done = subprocess.run([*review, sheet, *words], cwd=folder, capture_output=True, text=True, timeout=120)
+            return done, sorted(it.name for it in pathlib.Path(folder).iterdir() if it.name not in ("out.y4m", "covers.csv"))
+
+    plain = video_of("420", 12, 8)
+    done, left = tried(plain, names=("sheet.png", "sheet-2.png", "sheet-3.png", "sheet-5.png", "sheet-old.png"))
+    cases.count("sheets of an earlier run are removed, and other pictures stay", done.returncode == 0 and left == ["sheet-5.png", "sheet-old.png", "sheet.png"], f"{left} {done.stderr}")
+    for label, data, words, due in (
+        ("an unknown ending", plain, {"sheet": "sheet.xyz"}, "'.xyz' is the ending of no picture"),
+        ("no ending", plain, {"sheet": "sheet"}, "'' is the ending of no picture"),
+        ("a folder that isn't there", plain, {"sheet": "none/sheet.png"}, "none/sheet.png"),
+        ("a report of four numbers", plain, {"report": "1,0,0,1\n"}, "line 1 is no line frame,left,top,width,height"),
+        ("a report in words", plain, {"report": "1,0,0,1,b\n"}, "line 1 is no line frame,left,top,width,height"),
+        ("each 0th frame", plain, {"words": ("--every", "0")}, "the number is from 1 on"),
+        ("a frame of no pixel", b"YUV4MPEG2 W0 H4 F25:1 Cmono\nFRAME\n", {}, "its line names no size"),
+    ):
+        done, left = tried(data, **words)
+        cases.count(f"a sheet with {label} is refused in a line", done.returncode == 1 and due in done.stderr and done.stderr.count("\n") == 1 and not left, done.stderr)
+    for size in ((1, 1), (2, 1), (3000, 1), (1, 3000), (321, 3), (13, 9)):
+        for sampling in ("mono", "420", "411", "444alpha", "420p10"):
+            done, left = tried(video_of(sampling, *size))
+            cases.count(f"a sheet of frames of {size[0]} by {size[1]}, C{sampling}", done.returncode == 0 and left == ["sheet.png"], done.stderr)
+
+
 def by_one_command(cases, program, python):
     """examples/hide_faces.py, from a file to another. A failure leaves what was there."""
     data, shown = portrait()
@@ -196,6 +227,9 @@ def by_wrong_files(cases, python):
 def main():
     cases, python = Cases(), python_with("cv2")
     by_usage(cases)
+    pillow = python_with("PIL")
+    if not cases.lacks("sheets of a run", "python3-pil", number=6):
+        by_sheets(cases, pillow)
     programs = both_builds(cases, "imgref_frames")
     if cases.lacks("what OpenCV finds", "python3-opencv", "opencv-data", number=8 + len(SAMPLINGS) + 9 * len(programs)):
         return cases.end()

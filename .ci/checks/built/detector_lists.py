@@ -4,6 +4,7 @@
 A list that is written is read by imgref_frames too, and covers what the strict lines of the case say.
 """
 import pathlib
+import resource
 import subprocess
 import sys
 import tempfile
@@ -73,6 +74,9 @@ REFUSED = {
     "spaces within a field": ("", f"{HEADER}1,7,1 0,20,40,60\n", "line 2, column 3: the left is '1 0', which is no number"),
     "an empty field": ("", f"{HEADER}1,7,,20,40,60\n", "line 2, column 3: the left is '', which is no number"),
     "digits of another script": ("", f"{HEADER}1,7,\u0661,20,40,60\n", "line 2, column 3: the left is '\u0661', which is no number"),
+    "an empty last field": ("", f"{HEADER}1,7,10,20,40,\n", "line 2, column 6: the field is empty"),
+    "a long field": ("", f"{HEADER}1,7,{'9' * 3000}x,20,40,60\n", f"line 2, column 3: the left is '{'9' * 80}' and 2921 characters more, which is no number"),
+    "a long line with a size": ("--size 8x8", f"{HEADER}1,7,0.{'1' * 3000},0.2,10,0.6\n", f"line 2: '1,7,0.{'1' * 74}' and 2937 characters more isn't within 0 to 1"),
     "a line with too few fields": ("", f"{HEADER}1,7,10,20,40\n", "line 2: 5 fields, and the first line has 6"),
     "a line with too many fields": ("", f"{HEADER}0,1,7,10,20,40,60\n", "line 2: 7 fields, and the first line has 6"),
     "corners that are sizes": ("", f"{HEADER}1,7,100,20,30,40\n", "line 2, column 5: the right is '30', which is before the box begins: are they sizes?"),
@@ -135,6 +139,24 @@ def by_hand(cases):
     cases.count("the number of frames goes along", done.stdout == b"# frames 3\n1,7,10,20,30,40\n", str(done))
 
 
+def seconds(words):
+    """The processor time of a script of Python's."""
+    before = resource.getrusage(resource.RUSAGE_CHILDREN).ru_utime
+    subprocess.run([sys.executable, *words], check=True, capture_output=True, timeout=300)
+    return resource.getrusage(resource.RUSAGE_CHILDREN).ru_utime - before
+
+
+def by_time(cases):
+    """A list of 20,000 lines takes less time than its numbers take alone as fractions of Python's."""
+    lines = [f"{at // 4 + 1},{at % 4},{at % 1000}.25,{at % 500}.5,{at % 1000 + 30}.75,{at % 500 + 40}.125" for at in range(20000)]
+    with tempfile.TemporaryDirectory() as folder:
+        name = pathlib.Path(folder, "list.txt")
+        name.write_text(HEADER + "\n".join(lines) + "\n")
+        ours = seconds([ROOT / "examples/boxes.py", name])
+        theirs = seconds(["-c", f"from fractions import Fraction\nfor line in list(open({str(name)!r}))[1:]:\n    for it in line.split(','):\n        Fraction(it)"])
+    cases.count("20,000 lines take less time than their numbers take as fractions", ours < theirs, f"{ours:.2f} s, and {theirs:.2f} s")
+
+
 def by_program(cases, program):
     """The program reads each list that is written, as it reads the strict one."""
     head = b"YUV4MPEG2 W64 H64 F25:1 Cmono\n"
@@ -150,6 +172,7 @@ def by_program(cases, program):
 def main():
     cases = Cases()
     by_hand(cases)
+    by_time(cases)
     for program in both_builds(cases, "imgref_frames")[:1]:
         by_program(cases, program)
     return cases.end()

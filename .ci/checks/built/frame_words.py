@@ -2,12 +2,14 @@
 """Shows what imgref_frames says of its words, its options and its files, and with which status it ends. Both builds are run."""
 import os
 import pathlib
+import random
 import subprocess
 import sys
 import tempfile
 
 sys.path.insert(0, str(pathlib.Path(__file__).resolve().parents[2]))
 from checking import Cases, both_builds
+from edits import edits_of, late_pairs
 from version import VERSION
 from tries import FILL, ends, lines_said, video, wanted
 
@@ -20,16 +22,22 @@ EDIT_FILES = (
     ("\n\nfill 0,0,2,2 9\n\n", 0), ("crop 0,0,2,2\n", 0), ("fill  0,0,2,2 9", 0), (" \tfill\t0,0,2,2 9 \t\r\n", 0), ("fill 0,0,2,2 9#a face", 0), ("#\r\ncover 0,0,2,2 #16\r\n\t \r\n# end", 0), ("# a\rb\r\nfill 0,0,2,2 9\r", 0),
 )  # fmt: skip  # fmt: skip
 
-# Lists, and the notes about an edit that may show what a later one hides: by a move, by means or a blur, and by a mosaic.
-MOVED, MIXED, REPEATED = "a move comes before", "means or a blur come before", "a mosaic comes before"
+# Lists in which an edit may show what a later one hides, and others. What comes between two of them changes nothing.
 LATE = (
-    ("mosaic 0,0,8,8 8,8 cover 0,0,1,1", [REPEATED]), ("mosaic 0,0,8,8 8,8 cover 0,0,8,8", []), ("mosaic 0,0,8,8 8,8 cover 2,2,4,4", []), ("mosaic 0,0,8,8 8,8 cover 3,2,4,4", [REPEATED]), ("mosaic 0,0,8,8 8,8 cover 8,0,2,2", []),
-    ("mosaic 0,0,8,8 4,4 fill 0,0,4,4 9", []), ("mosaic 0,0,8,8 4,4 fill 0,0,4,3 9", [REPEATED]), ("mosaic 0,0,8,8 4,4 fill 0,0,3,4 9", [REPEATED]), ("mosaic 0,0,8,8 4,4 fill 1,0,3,4 9", []), ("mosaic 0,0,8,8 4,4 fill 1,0,4,4 9", [REPEATED]), ("mosaic 0,0,8,8 4,4 fill 4,4,4,4 9", []),
-    ("mosaic 0,0,6,6 4,4 fill 4,4,2,2 9", []), ("mosaic 0,0,7,6 4,4 fill 4,4,2,2 9", [REPEATED]), ("mosaic 2,2,6,6 4,4 fill 0,0,6,6 9", []), ("mosaic 2,2,6,6 4,4 fill 0,0,4,4 9", [REPEATED]), ("mosaic 0,0,8,8 8,8 fill 8,0,2,2 9", []), ("mosaic 0,0,4,4 1,1 fill 1,1,2,2 9", []),
-    ("mosaic 0,0,8,8 8,8 cover 0,0,8,8+0", []), ("mosaic 0,0,8,8 8,8 cover 0,0,7,8+0", [REPEATED]), ("mosaic 0,0,8,8 4,8 cover 0,0,4,8+0", []), ("mosaic 0,0,8,8 4,8 cover 0,0,4,8+1", [REPEATED]), ("mosaic 0,0,8,8 4,8 cover 1,0,2,8+1", []), ("fill 0,0,2,2 9 mosaic 0,0,8,8 8,8", []),
-    ("mosaic 0,0,8,8 8,8 mosaic 0,0,4,4 2,2", []), ("0..1 mosaic 0,0,8,8 8,8 1..2 cover 0,0,1,1", []), ("0..2 mosaic 0,0,8,8 8,8 1..2 cover 0,0,1,1", [REPEATED]), ("00:00:00..00:00:01 mosaic 0,0,8,8 8,8 00:00:01..00:00:02 cover 0,0,1,1", []), ("00:00:00..00:00:01 mosaic 0,0,8,8 8,8 2..3 cover 0,0,1,1", [REPEATED]),
-    ("move 0,0,2,2 2,2 fill 0,0,2,2 9", [MOVED]), ("move 0,0,2,2 2,2 means 4,4,2,2 2,2", [MOVED]), ("0..1 move 0,0,2,2 2,2 1.. fill 0,0,2,2 9", []), ("means 0,0,2,2 2,2 fill 0,0,2,2 9", [MIXED]), ("blur 0,0,2,2 1 mosaic 0,0,2,2 1,1", [MIXED]), ("move 0,0,2,2 2,2 blur 0,0,2,2 1 mosaic 0,0,8,8 8,8 cover 0,0,1,1", [MOVED, MIXED, REPEATED]),
+    "mosaic 0,0,8,8 8,8 cover 0,0,1,1", "mosaic 0,0,8,8 8,8 cover 0,0,8,8", "mosaic 0,0,8,8 8,8 cover 2,2,4,4", "mosaic 0,0,8,8 8,8 cover 3,2,4,4", "mosaic 0,0,8,8 8,8 cover 8,0,2,2", "mosaic 0,0,8,8 4,4 fill 0,0,4,4 9",
+    "mosaic 0,0,8,8 4,4 fill 0,0,4,3 9", "mosaic 0,0,8,8 4,4 fill 0,0,3,4 9", "mosaic 0,0,8,8 4,4 fill 1,0,3,4 9", "mosaic 0,0,8,8 4,4 fill 1,0,4,4 9", "mosaic 0,0,8,8 4,4 fill 4,4,4,4 9", "mosaic 0,0,6,6 4,4 fill 4,4,2,2 9",
+    "mosaic 0,0,7,6 4,4 fill 4,4,2,2 9", "mosaic 2,2,6,6 4,4 fill 0,0,6,6 9", "mosaic 2,2,6,6 4,4 fill 0,0,4,4 9", "mosaic 0,0,8,8 8,8 fill 8,0,2,2 9", "mosaic 0,0,4,4 1,1 fill 1,1,2,2 9", "mosaic 0,0,8,8 8,8 cover 0,0,8,8+0",
+    "mosaic 0,0,8,8 8,8 cover 0,0,7,8+0", "mosaic 0,0,8,8 4,8 cover 0,0,4,8+0", "mosaic 0,0,8,8 4,8 cover 0,0,4,8+1", "mosaic 0,0,8,8 4,8 cover 1,0,2,8+1", "fill 0,0,2,2 9 mosaic 0,0,8,8 8,8",
+    "mosaic 0,0,8,8 8,8 mosaic 0,0,4,4 2,2", "0..1 mosaic 0,0,8,8 8,8 1..2 cover 0,0,1,1", "0..2 mosaic 0,0,8,8 8,8 1..2 cover 0,0,1,1", "00:00:00..00:00:01 mosaic 0,0,8,8 8,8 00:00:01..00:00:02 cover 0,0,1,1",
+    "00:00:00..00:00:01 mosaic 0,0,8,8 8,8 2..3 cover 0,0,1,1", "move 0,0,2,2 2,2 fill 0,0,2,2 9", "move 0,0,2,2 2,2 means 4,4,2,2 2,2", "0..1 move 0,0,2,2 2,2 1.. fill 0,0,2,2 9", "means 0,0,2,2 2,2 fill 0,0,2,2 9",
+    "blur 0,0,2,2 1 mosaic 0,0,2,2 1,1", "move 0,0,2,2 2,2 blur 0,0,2,2 1 mosaic 0,0,8,8 8,8 cover 0,0,1,1",
+    *(f"{early} {between}{late}" for early in ("mosaic 0,0,8,8 8,8", "means 0,0,8,8 2,2", "blur 0,0,8,8 1", "move 0,0,2,2 8,8") for between in ("", "flip rows ", "flip columns ", "turn half ", "fill 0,0,16,16 3 ", "1..2 flip rows flip columns ") for late in ("cover 15,0,1,1+0", "fill 12,12,2,2 9", "crop 0,0,8,8")),
+    *(f"{first} mosaic 0,0,8,8 8,8 {second} cover 0,0,1,1" for first, second in (("0..2", "2..4"), ("2..4", "0..2"), ("0..3", "2..4"), ("2..4", "0..3"), ("3..", "0..3"), ("3..", "0..4"), ("0..1", ""), ("00:00:00..00:00:01", "00:00:00.999999999.."), ("00:00:01..", "00:00:00..00:00:01"), ("00:00:01..", "00:00:00..00:00:01.000000001"), ("00:00:00..00:00:01", "9.."))),
+    "cover 0,0,2,2 mosaic 0,0,8,8 8,8 cover 4,4,2,2 fill 8,8,2,2 9 move 0,0,2,2 2,2 flip rows cover 0,0,1,1 mosaic 0,0,4,4 2,2", "fill 0,0,2,2 9 flip rows cover 4,4,2,2 turn half means 0,0,8,8 2,2 blur 0,0,8,8 1 move 0,0,2,2 2,2",
 )  # fmt: skip
+# A picture of which only the first pixel isn't black, and edits by which it was seen beside the cover.
+SEEN = b"P5 16 8 255\nz" + bytes(127)
+LEAKS = ("mosaic 0,0,8,8 8,8 flip columns cover 15,0,1,1+0", "mosaic 0,0,8,8 8,8 flip rows cover 0,7,1,1+0", "mosaic 0,0,8,8 8,8 turn half cover 15,7,1,1+0")
 # Words, an input, and a part of a line that is printed after the fault.
 REASONS = (
     ("fill 0,0,2,2 9 fill 1,0,2,2 9", "420", "edit 2: column 1 is no multiple of 2"),
@@ -89,6 +97,26 @@ REASONS = (
 )
 
 
+# Edits of a picture of 16 by 8 pixels, from which lists are made by chance, and how many.
+PARTS = ("cover 15,0,1,1+0", "cover 0,0,2,3+1 9", "fill 2,2,5,3 7", "fill 8,0,4,8 9", "flip rows", "flip columns", "turn half", "flip columns", "mosaic 0,0,8,8 8,8", "means 0,0,16,8 4,4", "blur 4,0,8,8 3", "move 0,0,4,4 8,4", "1.. mosaic 0,0,16,8 16,8", "1.. cover 3,3,2,2", "0..1 means 2,0,4,4 2,2")
+TRIES = 150
+
+
+def covered_places(edits, wide, high):
+    """Whether a cover or fill of the first picture has each pixel, wherever flips have brought it by then."""
+    hidden, now = [False] * (wide * high), [(x, y) for y in range(high) for x in range(wide)]
+    for first, _, word, window, more in edits:
+        if first > 0:
+            continue
+        if word == "flip":
+            now = [(wide - 1 - x if "columns" in more else x, high - 1 - y if "rows" in more else y) for x, y in now]
+        if word in ("cover", "fill"):
+            left, top, width, height = window[:4]
+            margin = window[4] if len(window) > 4 else 0 if word == "fill" else 2
+            hidden = [it or (left - margin <= x < left + width + margin and top - margin <= y < top + height + margin) for it, (x, y) in zip(hidden, now)]
+    return hidden
+
+
 def by_words(cases, program):
     for words in ("", "fill", "fill 1,2,3,4", "blurs 0,0,1,1 2", "blur 0,0,1,1", "blur 0,0,1,1 1,1", "blur 0,0,1,1 32768", "fill 0,0,1,1 1,2", "fill 0,0,1,1 1,2,3,4", "pad 0,0,1,1 1,2,3", "fill 0,0,01,1 2", "fill 0,0,1 2", "mosaic 0,0,1,1 2", "crop 0,0,1,1 2", "crop 0,0,2,2 fill 0,0,2,2 9", "pad 0,0,2,2", "pad 0,0,2,2 9 crop 0,0,2,2", "1..2 pad 0,0,2,2 9", "1..2 crop 0,0,2,2", "1.2 fill 0,0,2,2 9", "cover 0,0,2,2+", "cover 0,0,2,2+ 9", "cover 0,0,2,2+1+1", "cover 0,0,2,2++1", "cover 0,0,2,2+01", "cover 0,0,2,2+-1", "cover 0,0,2,2+18446744073709551616", "cover 0,0,2+1,2", "cover +1", "cover 0,0,2,2 +1", "fill 0,0,2,2+1 9", "mosaic 0,0,2,2+1 2,2", "crop 0,0,2,2+1", "2..1 fill 0,0,4,4 9", "0..0 fill 0,0,4,4 9", "fill 0,0,2,2 9 5..5 move 0,0,2,2 2,2", "--edits /nowhere", "--edits", "--strict", "--limit", "--limit x fill 0,0,2,2 9", "--loud fill 0,0,2,2 9", "--edits /dev/null fill 0,0,2,2 9"):
         said = ends(program, words.split(), video("mono"))
@@ -119,11 +147,33 @@ def by_words(cases, program):
         cases.count(f"'{words}' has {notes} notes, one of them that a blur hides nothing", len(lines) == notes + 1 and ("note: a blur hides nothing: cover what has to stay secret first" in lines) == (notes > 0), str(lines))
     said = ends(program, "move 0,0,2,2 2,2 fill 0,0,2,2 9".split(), video("mono"))
     cases.count("a move before a fill is noted", said[1].startswith("note: ") and said[2] == 0, str(said))
-    for words, kinds in LATE:
-        lines = [it for it in lines_said(program, words.split(), video("mono", 16, 16)) if not it or "come" in it]
-        cases.count(f"'{words}' has the notes of {len(kinds)} kinds", [it.startswith(f"note: {kind}") for it, kind in zip(lines, kinds)] == [True] * len(kinds) and lines[len(kinds):] == [""], str(lines))
-        said = ends(program, ["--strict", *words.split()], video("mono", 16, 16))
-        cases.count(f"and with --strict it is {'a fault before any output' if kinds else 'none'}", said[::2] == (b"", 10) and said[1] == "fault order" if kinds else said[2] not in (10, 1), str(said[1:]))
+    for words in LATE:
+        edits = edits_of(words.split())
+        pairs = [f"edit {late}: the {edits[late - 1][2]} comes after the {edits[early - 1][2]} of edit {early}, which may show what it hides" for early, late in late_pairs(edits)]
+        said = [it for it in lines_said(program, words.split(), video("mono", 16, 16)) if " comes after " in it]
+        cases.count(f"'{words}' has a note for each of {len(pairs)} pairs", said == [f"note: {it}" for it in pairs], str(said))
+        said, lines = ends(program, ["--strict", *words.split()], video("mono", 16, 16)), lines_said(program, ["--strict", *words.split()], video("mono", 16, 16))
+        cases.count(f"and with --strict it is {'a fault before any output' if pairs else 'none'}", said[::2] == (b"", 10) and lines == ["fault order", *pairs, ""] if pairs else said[2] not in (10, 1), str(lines))
+    for words in LEAKS:
+        said = ends(program, ["--strict", *words.split()], SEEN)
+        cases.count(f"--strict refuses '{words}'", said == (b"", "fault order", 10), str(said))
+    with tempfile.NamedTemporaryFile("w", suffix=".edits") as listed:
+        listed.write("# faces\nmosaic 0,0,8,8 8,8\n\ncover 0,0,2,2\nflip rows\ncover 4,4,2,2\nmove 0,0,2,2 4,4\nfill 0,0,2,2 9\n")
+        listed.flush()
+        lines = lines_said(program, ["--strict", "--edits", listed.name], video("mono", 16, 16))
+        wanted_lines = [f"line {late}: the {word} comes after the {before}, which may show what it hides" for late, word, before in ((4, "cover", "mosaic of line 2"), (6, "cover", "mosaic of line 2"), (8, "fill", "mosaic of line 2"), (8, "fill", "move of line 7"))]
+        cases.count("a pair in a file of edits is named by its lines", lines == ["fault order", *wanted_lines, ""], str(lines))
+    many = "mosaic 0,0,8,8 8,8 " + "cover 0,0,2,2 " * 23
+    lines = lines_said(program, ["--strict", *many.split()], video("mono", 16, 16))
+    cases.count("of many pairs the first 20 are named, and the others counted", len(lines) == 23 and lines[20].startswith("edit 21: ") and lines[21] == "and 3 more like these", str(lines[-4:]))
+    chance = random.Random(4)
+    for number in range(TRIES):
+        words = " ".join(chance.choice(PARTS) for _ in range(chance.randrange(2, 6)))
+        edits = edits_of(words.split())
+        mine = bytes(chance.randrange(256) for _ in range(128))
+        theirs = bytes(chance.randrange(256) if is_covered else cell for cell, is_covered in zip(mine, covered_places(edits, 16, 8)))
+        ours, other = (ends(program, ["--strict", *words.split()], b"P5 16 8 255\n" + it) for it in (mine, theirs))
+        cases.count(f"what --strict passes of '{words}' reveals nothing of what is covered", ours == other and ours[2] == (10 if late_pairs(edits) else 0), f"{ours[1:]} {other[1:]}")
     for words, shown in (("fil 0,0,2,2 9", "at word 1: fil isn't one of"), ("", "there is no edit")):
         lines = lines_said(program, words.split(), video("mono"))
         cases.count(f"the reason of '{words}' comes first, and the help only where asked", lines[0] == "fault words" and shown in lines[1] and lines[2:] == ["imgref_frames --help lists the edits and the options", ""], str(lines[:4]))

@@ -278,6 +278,18 @@ def by_container(cases, script, folder, environment):
     cases.count(f"titles, a chapter, a thumbnail and a subtitle aren't in the output: {script.split()[1]}", before.count("Anna") >= 4 and done.returncode == 0 and "Anna" not in after and kinds == ["video", "audio"] and b"Anna" not in pathlib.Path(folder, "out.mp4").read_bytes(), done.stderr[-2000:] + after)
 
 
+def by_cut(cases, scripts, folder, environment):
+    """A video that is cut off is refused by name, and nothing is made of it."""
+    ffmpeg(folder, "-i plain.mp4 -c copy -movflags +faststart front.mp4")
+    ffmpeg(folder, "-i plain.mp4 -c copy whole.mkv")
+    for file in ("front.mp4", "whole.mkv"):
+        data = pathlib.Path(folder, file).read_bytes()
+        pathlib.Path(folder, "in.mp4").write_bytes(data[: len(data) // 2])
+        for script in scripts:
+            done = run("bash", script, folder, environment)
+            cases.count(f"half of {file} is refused by name: {script.split()[1]}", done.returncode != 0 and "in.mp4 is cut off" in done.stderr and not pathlib.Path(folder, "out.mp4").exists(), done.stderr[-2000:])
+
+
 def by_kinds(cases, program, python):
     with tempfile.TemporaryDirectory() as folder:
         environment, found = room(folder, program, python), recipes()
@@ -301,6 +313,7 @@ def by_kinds(cases, program, python):
             by_recipe(cases, "a phone that was held upright", "bash", script, folder, environment, is_in_step=False)
         for script in (*found, BY_COMMAND):
             by_container(cases, script, folder, environment)
+        by_cut(cases, (*found, BY_COMMAND), folder, environment)
 
 
 def main():

@@ -86,6 +86,7 @@ def by_parallel(cases, program):
         given, made = pathlib.Path(folder, "in"), pathlib.Path(folder, "out")
         given.mkdir()
         made.mkdir()
+        pathlib.Path(folder, "examples").symlink_to(ROOT / "examples")
         for name in SAMPLINGS:
             (given / f"{name}.y4m").write_bytes(video(name, 100, 80))
         (made / "mono.y4m").write_bytes(b"made before")
@@ -108,8 +109,51 @@ def by_parallel(cases, program):
             cases.count(f"video {number} has all its frames, each covered", len(grey) == 25 * 300 * 140 and max(grey) < 40, f"{len(grey)} bytes up to {max(grey, default=0)}")
 
 
+# Kinds of files, by their names and what ffmpeg needs for them; and those whose header says neither how many frames there are nor how
+# long they last. Of them only a cut within a packet can be known, and of ts none.
+KINDS = {
+    "end.mp4": "",
+    "front.mp4": "-movflags +faststart",
+    "parts.mp4": "-movflags +frag_keyframe+empty_moov",
+    "whole.mov": "",
+    "whole.mkv": "",
+    "whole.webm": "-c:v libvpx -deadline realtime -c:a libopus",
+    "whole.avi": "",
+    "whole.flv": "-ar 44100",
+    "whole.ts": "",
+}
+SILENT = ("parts.mp4", "whole.ts")
+
+
+def by_whole(cases):
+    """examples/whole.py tells a video that is cut off from a whole one, by the file itself. By ffmpeg's status most pass as whole."""
+    whole = [sys.executable, ROOT / "examples/whole.py"]
+    for name, options in KINDS.items():
+        with tempfile.TemporaryDirectory() as folder:
+            file, cut = pathlib.Path(folder, name), pathlib.Path(folder, f"cut.{name}")
+            source = "-f lavfi -i testsrc2=size=160x120:rate=25:duration=4 -f lavfi -i sine=duration=4.3"
+            subprocess.run(["ffmpeg", "-v", "error", *source.split(), *options.split(), file], check=True, timeout=300)
+            data = file.read_bytes()
+            done = subprocess.run([*whole, file], capture_output=True, text=True, timeout=120)
+            cases.count(f"{name} is whole", done.returncode == 0 and ("isn't known" in done.stderr) == (name in SILENT), done.stderr)
+            for part in (10, 50, 90):
+                cut.write_bytes(data[: len(data) * part // 100])
+                done = subprocess.run([*whole, cut], capture_output=True, text=True, timeout=120)
+                passes = name == "whole.ts" and "isn't known" in done.stderr
+                cases.count(f"{name} with {part} % of its bytes is {'not known to be cut off' if passes else 'refused by name'}", done.returncode == 0 if passes else done.returncode == 1 and str(cut) in done.stderr, done.stderr)
+            for said, status in ((100, 0), (101, 0), (60, 1)):
+                listed = pathlib.Path(folder, "faces.txt")
+                listed.write_text(f"# frames {said}\n1,1,2,2,4,4\n")
+                done = subprocess.run([*whole, file, listed], capture_output=True, text=True, timeout=120)
+                cases.count(f"a list of {said} frames {'may' if status == 0 else 'may not'} be of {name}", done.returncode == status, done.stderr)
+    done = subprocess.run([*whole, "/nowhere/in.mp4"], capture_output=True, text=True, timeout=120)
+    cases.count("a file that can't be read is named", done.returncode == 1 and "/nowhere/in.mp4" in done.stderr and "Traceback" not in done.stderr, done.stderr)
+
+
 def main():
     cases = Cases()
+    if shutil.which("ffmpeg") and shutil.which("ffprobe"):
+        by_whole(cases)
     for program in both_builds(cases, "imgref_frames"):
         if not cases.lacks("edits beside ffmpeg's filters, and H.264 through the pipe", "ffmpeg", number=87):
             by_ffmpeg(cases, str(program))

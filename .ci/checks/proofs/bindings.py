@@ -5,6 +5,7 @@ the crate for Rust.
 It builds over what the proofs left, and works in a folder of its own. What isn't on the machine is
 skipped. NumPy, OpenCV and PIL are those of the system's Python.
 """
+import dataclasses
 import json
 import os
 import pathlib
@@ -16,6 +17,7 @@ import zipfile
 sys.path.insert(0, str(pathlib.Path(__file__).resolve().parents[2]))
 from checking import ROOT, Cases
 
+import libraries
 import version
 from needs import imports
 from library import RUST_COUNT, counted, installed, run
@@ -24,7 +26,7 @@ from python_package import HOOK, TRIED, described
 PYTHON = ROOT / "bindings/python"
 # The tests of the package, each a program that counts: those of every Python, and those of one.
 QUICK = ("calls", "formats", "shapes", "colours", "buffers", "refusals", "indexes", "regions")
-TESTS = (*QUICK, "reentry", "speed")
+TESTS = (*QUICK, "reentry", "races", "speed")
 # Freed memory is overwritten, so that a read or a write of it shows.
 DEBUGGED = {"PYTHONMALLOC": "debug", "MALLOC_PERTURB_": "165"}
 # A module that is compiled so is for this version of CPython and all later ones.
@@ -72,9 +74,30 @@ def check_python(cases, room):
 
 
 def with_arrays():
-    """The Python of this check, or that of the system where that one alone has NumPy, OpenCV or PIL."""
+    """The Python of this check, or that of the system where that one has more of NumPy, OpenCV and PIL
+    and takes the same wheel."""
+    is_older = run(["/usr/bin/python3", "-c", f"import sys; sys.exit(sys.version_info < {sys.version_info[:2]})"])[0] if os.path.exists("/usr/bin/python3") else 1
     has = lambda python: sum(imports(python, it) for it in ("numpy", "cv2", "PIL"))
-    return max((sys.executable, "/usr/bin/python3"), key=has)
+    return max([sys.executable] if is_older else [sys.executable, "/usr/bin/python3"], key=has)
+
+
+def check_refused(cases, room):
+    """What can't be built is refused by one line, before anything is proved: the package for an older Python or for none, and a
+    release without the C library for the other processor. That processor's archive has no page of a program that it lacks."""
+    old = sorted(pathlib.Path(os.environ.get("PYENV_ROOT") or "~/.pyenv").expanduser().glob("versions/3.[6-9].*/bin/python3"))
+    if not old:
+        cases.leave("make python by a Python that is too old", "CPython 3.9")
+    words = {"there is no program /nonexistent/python3": "/nonexistent/python3", "/bin/true is no Python": "/bin/true", **{"the package needs CPython 3.10 or later, and": str(it) for it in old[-1:]}}
+    for said_by, python in words.items():
+        status, _, said = run(["make", "-s", "python"], cwd=ROOT, env=os.environ | {"PYTHON": python})
+        lines = [it for it in said.splitlines() if not it.startswith("make")]
+        cases.count(f"make python: {said_by}", status != 0 and len(lines) == 1 and said_by in lines[0], said)
+    (room / "lacking-gcc").write_text("#!/bin/sh\necho libc.so\n")
+    (room / "lacking-gcc").chmod(0o755)
+    lacking = dataclasses.replace(libraries.OTHER, tools=f"{room}/lacking-")
+    cases.count("a compiler without a C library is told", not libraries.has_c_library(lacking) and (not shutil.which("gcc") or libraries.has_c_library(libraries.HERE)))
+    pages = [it for it in libraries.sources(with_programs=False) if "/man" in it]
+    cases.count("an archive without programs has no page of them", pages == ["share/man/man3/imgref.3"], str(pages))
 
 
 def pythons():
@@ -201,7 +224,7 @@ def check_hints(cases, room, python):
         "frame.copy_from(frame.copy()); height: int = frame.shape[0]; text: str = frame.dtype": True,
         "view: memoryview = memoryview(frame)": True,
         "part: imgref.Image = frame[0:1, 1:3]; frame[0, 1] = 7; frame[0:1, 1:3] = frame.copy(); frame[0:1] = (1, 2, 3)": True,
-        "frame.fill(7); frame.fill((1, 2, 3))": True,
+        "frame.fill(7); frame.fill((1, 2, 3)); frame.fill(value=(1, 2, 3, 4))": True,
         "frame.fill()": False,
         "frame['x']": False,
         "pixels: bytes = bytes(frame); planes: list[imgref.Image] = imgref.Image.planes_of(frame)": True,
@@ -260,6 +283,7 @@ def main():
     check_versions(cases)
     with tempfile.TemporaryDirectory(prefix="bindings-") as room:
         room = pathlib.Path(room)
+        check_refused(cases, room)
         if prefix := installed(cases, room):
             check_python(cases, room)
             check_rust(cases, prefix, room)

@@ -59,6 +59,25 @@ def check_names(cases, compiler, prefix):
     for file in (prefix / "include/imgref.h", ROOT / "docs/C.md"):
         said = re.sub(r"[\s*`]+", " ", file.read_text())
         cases.count(f"{file.name} says how long a row of colours may be", "width channels is below 2^32" in said, said)
+        part = said.partition("A pixel of three bytes is three cells of one byte")[2].partition(" Sizes ")[0].partition(" A row of colours ")[0]
+        lacking = [it for it in single_calls() if not re.search(rf"\b{it}\b", part)]
+        cases.count(f"{file.name} says of each call without channels what it does with colours", bool(part) and not lacking, f"{lacking} in {part}")
+
+
+def single_calls():
+    """The calls of the header that take no number of channels."""
+    header = (ROOT / "include/imgref.h").read_text()
+    declared = re.findall(r"imgref_(?:##NAME##|u8)_(\w+)\(([^;]*)\)", header)
+    return sorted({name for name, words in declared if "channels" not in words})
+
+
+def check_races(cases, compiler, prefix, room):
+    """No call writes outside its buffers while another process changes the pixels: with the archive as users link it."""
+    status, _, said = run([*compiler, "-std=c11", "-O2", *WARNINGS, f"-I{prefix / 'include'}", ROOT / ".ci/c/races.c", "-o", room / "races", prefix / "lib/libimgref.a"])
+    cases.count("races.c", status == 0, said)
+    if status == 0:
+        status, _, said = run([room / "races"])
+        counted(cases, "calls whose pixels another process changes", said, status)
 
 
 def check_c(cases, compiler, prefix, room):
@@ -107,7 +126,7 @@ def check_view(cases, prefix, room):
         for standard in ("-std=c++17", "-std=c++20", "-std=c++23"):
             label = f"view.cpp, {' '.join(compiler)} {standard}"
             if run([*compiler, standard, "-fsyntax-only", "-x", "c++", "/dev/null"])[0]:
-                cases.leave(label, f"C++{standard[-2:]}")
+                cases.leave(label, "C++23") if standard.endswith("23") else cases.skip(label, package(compiler))
                 continue
             words = [*standard.split(), "-O1", "-g", *WARNINGS, "-fsanitize=address,undefined", "-fno-sanitize-recover=all", f"-I{prefix / 'include'}"]
             status, _, said = run([*compiler, *words, ROOT / ".ci/c/view.cpp", "-o", room / "view", prefix / "lib/libimgref.a"])
@@ -116,7 +135,9 @@ def check_view(cases, prefix, room):
                 status, _, said = run([room / "view"])
                 counted(cases, f"calls of {label}", said, status)
     compiler = os.environ.get("CXX", "c++").split()
-    if shutil.which(compiler[0]):
+    if not shutil.which(compiler[0]):
+        cases.skip("the example in C++, and what compiles", package(compiler), number=6 + 2 * len(COMPILES))
+    else:
         check_hide(cases, compiler, prefix, room)
         check_reading(cases, compiler, prefix, room)
 
@@ -148,6 +169,15 @@ COMPILES = {
     "imgref::rect w{0, 0, 1};": 0,
     "imgref::rect w{0, 0, 1, 1}; imgref_rect same = w; v.fill(same, one);": 17,
     "p.fill({0, 0, 1, 1}, {1, 2, 3, 4}); p.fill(four{1, 2, 3, 4});": 17,
+    "p.fill({0, 0, 1, 1});": 0,
+    "v.fill({0, 0, 1, 1});": 0,
+    "p.fill(p.whole(), {1, 2, 3, 4}); v.fill({});": 17,
+    "int x = 0, w = 1; v.fill({x, x, w, w}, {7}); return v.window({x, x, w, 1u}).width() == 1;": 17,
+    "v.fill({0.5, 0, 1, 1}, {7});": 0,
+    "auto rgb = imgref::colours<3>(c, 1, 2); rgb.fill(rgb.whole(), {1, 2, 3}); rgb.flip_columns(); rgb.turn(imgref::turn::half); return rgb.count(rgb.whole(), {1, 2, 3});": 17,
+    "auto rgb = imgref::colours<3>(reading, 6, 1, 2, 3); return rgb.get(0, 1)[2];": 17,
+    "auto rgb = imgref::colours<3>(reading, 6, 1, 2, 3); rgb.put(0, 1, {1, 2, 3});": 0,
+    **{f"auto rgb = imgref::colours<3>(c, 1, 2); rgb.{it};": 0 for it in ("fill({0, 0, 1, 1})", "fill(rgb.whole(), {1, 2})", "fill(rgb.whole(), {1, 2, 300})", "histogram()", "equalize()", "flood_fill(0, 0, {1, 2, 3})", "bounding_box({1, 2, 3})")},
     "p.fill({0, 0, 1, 1}, one);": 0,
     "p.fill({0, 0, 1, 1}, {1, 2, 3, 300});": 0,
 }
@@ -168,7 +198,7 @@ int main() {
         words = [*compiler, f"-std=c++{standard}", f"-I{prefix / 'include'}", "-fsyntax-only", file]
         file.write_text(f"#if {standard} > 17 && !defined(__cpp_consteval)\n#error\n#endif\n")
         if run(words)[0]:
-            cases.leave("what compiles", f"C++{standard}")
+            cases.skip(f"what compiles by C++{standard}", package(compiler), number=len(COMPILES))
             continue
         file.write_text(f"{head}return number; }}\n")
         status, _, said = run(words)
@@ -178,6 +208,10 @@ int main() {
             status, _, said = run(words)
             is_well = 0 < since <= standard
             cases.count(f"C++{standard} {'compiles' if is_well else 'refuses'}: {line}", (status == 0) == is_well, said)
+        if standard == 17:
+            for line in ("v.fill({0, 0, 1, 1}, 255);", "v.fill(0);", "v.put(0, 0, number);", "return v.count(7);"):
+                file.write_text(f"{head}{line} }}\n")
+                cases.count(f"C++17's error names braces: {line}", "write a constant in braces" in run(words)[2], run(words)[2])
 
 
 def check_cmake(cases, prefix, room):
@@ -300,6 +334,7 @@ def main():
         if prefix := installed(cases, room):
             check_names(cases, compiler, prefix)
             check_c(cases, compiler, prefix, room)
+            check_races(cases, compiler, prefix, room)
             check_cpp(cases, prefix, room)
             check_view(cases, prefix, room)
             check_cmake(cases, prefix, room)

@@ -10,6 +10,7 @@ Firefox isn't on the machine, what needs it is skipped. With the word --screensh
 nothing.
 """
 import base64
+import contextlib
 import gzip
 import pathlib
 import re
@@ -23,7 +24,7 @@ import traceback
 import urllib.request
 
 sys.path.insert(0, str(pathlib.Path(__file__).resolve().parents[2]))
-from browser import acts, covers, files, hands, layout, looks, losses, picture, shots, strokes, turns, views
+from browser import acts, covers, edges, files, hands, kept, layout, looks, losses, picture, seen, shots, strokes, turns, views
 from browser.driver import browser, firefox, served
 from checking import ROOT, Cases
 import web
@@ -146,6 +147,7 @@ def check_page(cases, program):
             check(page)
         acts.check_keys(page)
         acts.check_undo(page)
+        acts.check_taken_back(page)
         acts.check_hidden(page)
         acts.check_means(page)
         turns.check(page, program)
@@ -158,6 +160,8 @@ def check_page(cases, program):
         files.check_large(page)
         for check in (views.check_sizes, views.check_zoom, views.check_brush, views.check_kept, views.check_copied,
                       views.check_shortcuts, hands.check_fingers, hands.check_keys_alone):
+            check(page)
+        for check in (seen.check, kept.check, edges.check, edges.check_small_windows, edges.check_swipe):
             check(page)
         looks.check_names(page)
         layout.check_output(page)
@@ -196,8 +200,52 @@ def check_firefox(cases):
         strokes.check_form(page)
         strokes.check_crop(page)
         strokes.check_random(page)
+        for check in (seen.check, kept.check, edges.check):
+            check(page)
         looks.check_sends(page, asked, other, other_asked)
         hands.check_disk(page, OUT)
+
+
+# A name of this machine that a browser takes for another one's, so that its address is plain http.
+PLAIN = "plain.test"
+# A setting of Firefox by which it gives noise for the pixels of a canvas, and a page that opens a picture all the same.
+NOISE = {"privacy.resistFingerprinting": True}
+BLIND = (("open.js", "if (!await givesPixels()) {", "if (false) {"),)
+
+
+def check_kinds(cases):
+    """Browsers of other kinds: a large picture in one of its own, plain http, and a browser that gives noise."""
+    with served(OUT) as (url, _):
+        with browser(cases, "a page at its edges in Chromium") as found:
+            if found:
+                page = picture.Page(found, url, cases)
+                page.start()
+                edges.check_memory(page)
+        with browser(cases, "the page over plain http in Chromium", f"--host-resolver-rules=MAP {PLAIN} 127.0.0.1") as found:
+            if found:
+                edges.check_plain_http(picture.Page(found, url.replace("127.0.0.1", PLAIN), cases))
+    with served(OUT) as (url, _), changed(cases, BLIND) as blind, firefox(cases, "a page whose pixels are noise in Firefox", NOISE) as found:
+        if found:
+            for address, check in ((url, edges.check_noise), (blind, edges.check_noise_saved)):
+                page = picture.Page(found, address, Prefixed(cases, "Firefox"))
+                page.start()
+                check(page)
+
+
+@contextlib.contextmanager
+def changed(cases, changes):
+    """The address of a page in whose sources these texts are others."""
+    with tempfile.TemporaryDirectory(prefix="page-") as room:
+        sources, out = (pathlib.Path(room) / it for it in ("web", "out"))
+        shutil.copytree(ROOT / "web", sources)
+        out.mkdir()
+        for name, old, new in changes:
+            text = (sources / name).read_text()
+            cases.count(f"a change of {name} for a wrong page", text.count(old) == 1, old)
+            (sources / name).write_text(text.replace(old, new))
+        (out / "index.html").write_text(web.page(*web.PAGES["index.html"], sources))
+        with served(out) as (url, _):
+            yield url
 
 
 class Prefixed:
@@ -230,24 +278,15 @@ OLD_RULE = (
 
 def check_wrong_page(cases):
     """A page with the old rule for corners fails the strokes."""
-    with tempfile.TemporaryDirectory(prefix="page-") as room:
-        sources, out = (pathlib.Path(room) / it for it in ("web", "out"))
-        shutil.copytree(ROOT / "web", sources)
-        out.mkdir()
-        for name, old, new in OLD_RULE:
-            text = (sources / name).read_text()
-            cases.count(f"the old rule is a change of {name}", text.count(old) == 1, old)
-            (sources / name).write_text(text.replace(old, new))
-        (out / "index.html").write_text(web.page(*web.PAGES["index.html"], sources))
-        with served(out) as (url, _), browser(cases, "a page with a wrong rule in Chromium") as found:
-            if found:
-                faults = Faults()
-                page = picture.Page(found, url, faults)
-                page.start()
-                strokes.check_form(page, ("mouse",))
-                cases.count("a form that is covered on a page with the old rule is found out", faults.failed > 0, faults.failed)
-                shown = [it for it, _ in strokes.run_random(page, 2 * strokes.ON_ONE)]
-                cases.count("and so are strokes by chance", any(it[0] for it in shown), shown)
+    with changed(cases, OLD_RULE) as url, browser(cases, "a page with a wrong rule in Chromium") as found:
+        if found:
+            faults = Faults()
+            page = picture.Page(found, url, faults)
+            page.start()
+            strokes.check_form(page, ("mouse",))
+            cases.count("a form that is covered on a page with the old rule is found out", faults.failed > 0, faults.failed)
+            shown = [it for it, _ in strokes.run_random(page, 2 * strokes.ON_ONE)]
+            cases.count("and so are strokes by chance", any(it[0] for it in shown), shown)
 
 
 def beside(cases, check):
@@ -268,13 +307,14 @@ def main(words):
     cases = Cases()
     if made(cases, "web"):
         if words == ["--screenshots"]:
-            with served(OUT) as (url, _), browser(cases, "the screenshots") as found:
+            # (as where scroll bars are over the page)
+            with served(OUT) as (url, _), browser(cases, "the screenshots", "--hide-scrollbars") as found:
                 shots.take(picture.Page(found, url, cases), ROOT / "docs")
             return cases.end()
         check_files(cases)
         check_served(cases)
         program = PROGRAM if made(cases, "frames") else None
-        others = [beside(cases, it) for it in (check_firefox, check_strokes)]
+        others = [beside(cases, it) for it in (check_firefox, check_strokes, check_kinds)]
         try:
             check_page(cases, program)
         finally:

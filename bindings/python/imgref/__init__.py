@@ -15,11 +15,17 @@ A call that fails raises `ValueError` or `TypeError`, and nothing has changed. W
 refuses, for example a window that isn't inside, that is `Refused`, a `ValueError`. Memory that
 overlaps is refused here too, since the library can't see that.
 """
+try:
+    from . import _native as _native
+except ImportError as why:
+    if "subinterpreter" not in str(why):
+        raise
+    raise ImportError("imgref loads in the main interpreter alone, and not in a subinterpreter: take threads or processes") from None
 from ._image import Image
 from ._regions import bounding_box, components, equalize, flood_fill, histogram, integral
 from ._types import Buffer, Corners, Number, Pixel, Refused, Window
 
-__version__ = "0.3.1"
+__version__ = "0.4.0"
 __all__ = ["Buffer", "Corners", "Image", "Number", "Pixel", "Refused", "Window", "bounding_box", "components", "equalize", "flood_fill", "histogram", "integral", "__version__"]
 
 # (a user knows these by the package's name)

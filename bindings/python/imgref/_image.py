@@ -1,15 +1,16 @@
 """Images over memory that belongs to other objects."""
 from __future__ import annotations
 
+from collections.abc import Mapping, Set
 from operator import index
 from types import EllipsisType
-from typing import Any, Iterator, SupportsIndex, overload
+from typing import TYPE_CHECKING, Any, Iterator, NoReturn, SupportsIndex, overload
 
 from . import _native
 from ._cells import Cell
 from ._layout import Layout
 from ._memory import known, memory_of, shaped, sized
-from ._refusals import place
+from ._refusals import piece, place
 from ._types import Buffer, Corners, Pixel, Refused, Turn, Window
 
 _get, _put, _fill, _copy = _native.get, _native.put, _native.fill, _native.copy
@@ -18,8 +19,8 @@ _move, _mosaic, _equal, _window, _hold = _native.move, _native.mosaic, _native.e
 _QUARTERS: dict[Turn, int] = {"right": 1, "half": 2, "left": 3}
 # In the place of a value: `fill` got one argument, which is for all pixels.
 _ALL = object()
-# The status of imgref.h for a pixel that isn't there.
-_PLACE_OUTSIDE = 4
+# The statuses of imgref.h for a window and for a pixel that aren't there.
+_WINDOW_OUTSIDE, _PLACE_OUTSIDE = 2, 4
 
 
 class Image(Layout):
@@ -106,15 +107,21 @@ class Image(Layout):
     def fill(self, value: Pixel, /) -> None: ...
 
     @overload
+    def fill(self, *, value: Pixel) -> None: ...
+
+    @overload
     def fill(self, window: Corners, value: Pixel) -> None: ...
 
-    def fill(self, window: Any, value: Any = _ALL) -> None:
-        """Every pixel of the window becomes `value`. `fill(value)` is for all pixels."""
+    def fill(self, window: Any = _ALL, value: Any = _ALL) -> None:
+        """Every pixel of the window becomes `value`. `fill(value)` is for all pixels. A value of four
+        numbers may be a window whose value was forgotten, so it is `fill(value=..)`."""
         if value is _ALL:
-            if isinstance(window, Window):
-                raise TypeError(f"a value is missing: fill({window}, value)")
-            window, value = (0, 0, self._width, self._height), window
-        _fill(self, window, self._pixels.encode(value))
+            if window is _ALL:
+                raise TypeError("a value is missing: fill(window, value), or fill(value=..) for all pixels")
+            if _may_be_window(window):
+                raise TypeError(f"a value is missing: fill({window!r}, value), or fill(value={window!r}) for all pixels")
+            window, value = _ALL, window
+        _fill(self, (0, 0, self._width, self._height) if window is _ALL else window, self._pixels.encode(value))
 
     def count(self, window: Corners, value: Pixel) -> int:
         """How many pixels of the window have the bits of `value`.
@@ -280,8 +287,8 @@ class Image(Layout):
 
     def __getitem__(self, key: Any) -> Any:
         """`image[y, x]` is a pixel, and `image[10:20, 5:50]` is the window of these rows and
-        columns. Numbers below 0 count from the end, and slices end at the edge, as NumPy has it.
-        A step other than 1 is refused.
+        columns. Numbers below 0 count from the end. A slice that reaches outside or ends before it
+        begins is refused, and so is a step other than 1. One that ends where it begins is empty.
 
         >>> image = Image(bytearray(range(12)), 4, 3)
         >>> image[1, 2], image[-1, -1], list(image[1:, 2:].tobytes())
@@ -318,16 +325,16 @@ class Image(Layout):
             return key[1], key[0]
         if key is ... or isinstance(key, slice):
             key = (slice(None) if key is ... else key, slice(None))
-        if isinstance(key, tuple) and len(key) == 2 and isinstance(key[0], slice) == isinstance(key[1], slice):
+        if isinstance(key, tuple) and len(key) == 2 and isinstance(key[0], slice) == isinstance(key[1], slice) and not any(it is ... for it in key):
             sizes = (self._height, self._width)
             if isinstance(key[0], slice):
-                (top, height), (left, width) = map(_piece, key, sizes)
+                (top, height), (left, width) = map(_piece, key, sizes, ("row", "column"))
                 return Window(left, top, width, height)
             y, x = map(index, key)
             if -sizes[0] <= y and -sizes[1] <= x:
                 return x + sizes[1] * (x < 0), y + sizes[0] * (y < 0)
             raise Refused(_PLACE_OUTSIDE, place(x, y, self._width, self._height))
-        raise TypeError(f"an image takes image[y, x] or image[top:bottom, left:right], and not {key!r}")
+        raise TypeError(f"an image takes image[y, x] or image[top:bottom, left:right], and not {key!r}{_instead(key)}")
 
     def tiles(self, tile_width: int, tile_height: int) -> Iterator[Window]:
         """The windows of the tiles, line by line."""
@@ -345,6 +352,14 @@ class Image(Layout):
 
     __hash__ = None  # type: ignore[assignment]
 
+    def _no_sum(self, other: object) -> NoReturn:
+        raise TypeError("an image has no arithmetic and no order: numpy.asarray(image) is an array over its pixels, which has")
+
+    if not TYPE_CHECKING:
+        __add__ = __radd__ = __sub__ = __rsub__ = __mul__ = __rmul__ = __truediv__ = __rtruediv__ = _no_sum
+        __floordiv__ = __rfloordiv__ = __mod__ = __rmod__ = __pow__ = __rpow__ = __matmul__ = __rmatmul__ = _no_sum
+        __and__ = __rand__ = __or__ = __ror__ = __xor__ = __rxor__ = __lt__ = __le__ = __gt__ = __ge__ = _no_sum
+
     def __copy__(self) -> Image:
         return self.window((0, 0, self._width, self._height))
 
@@ -356,12 +371,38 @@ class Image(Layout):
         return f"<imgref.Image of {self._width} by {self._height} pixels{colours}, stride {self.stride}, format {self.format!r}>"
 
 
-def _piece(key: slice, count: int) -> tuple[int, int]:
-    """The first of the rows or columns that a slice means, and how many they are."""
-    start, stop, step = key.indices(count)
+def _piece(key: slice, count: int, name: str) -> tuple[int, int]:
+    """The first of the rows or columns that a slice means, and how many they are. None is cut off,
+    so that what is to be covered is covered."""
+    step = 1 if key.step is None else index(key.step)
     if step != 1:
         raise ValueError(f"a window has every row and column, and no step of {step}: copy_of copies such pixels of an array")
-    return start, max(stop - start, 0)
+    start, stop = 0 if key.start is None else index(key.start), count if key.stop is None else index(key.stop)
+    begin, end = start + count * (start < 0), stop + count * (stop < 0)
+    if not (0 <= begin <= count and 0 <= end <= count) or end < begin:
+        raise Refused(_WINDOW_OUTSIDE, piece(name, "" if key.start is None else str(start), "" if key.stop is None else str(stop), begin, end, count))
+    return begin, end - begin
+
+
+def _may_be_window(value: Any) -> bool:
+    """Whether a value has four parts, as a window has, or gives its parts once and so doesn't tell."""
+    if isinstance(value, (str, Set, Mapping)):
+        return False
+    try:
+        return len(value) == 4
+    except TypeError:
+        return hasattr(value, "__next__")
+
+
+def _instead(key: Any) -> str:
+    """What to write for an index that an array has and an image hasn't."""
+    if not isinstance(key, tuple):
+        return ""
+    if len(key) == 3 or any(it is ... for it in key):
+        return ": numpy.asarray(image) is an array over its pixels, with the channels as its last index"
+    if len(key) == 2 and isinstance(key[0], slice) != isinstance(key[1], slice):
+        return ": a row is image[y:y + 1, left:right], and a column is image[top:bottom, x:x + 1]"
+    return ""
 
 
 def _quarters(turn: Turn) -> int:

@@ -23,6 +23,15 @@ def window(left: int, top: int, width: int, height: int, columns: int, rows: int
     return f"the window {left},{top},{width},{height} reaches {outside}"
 
 
+def piece(name: str, start: str, stop: str, begin: int, end: int, count: int) -> str:
+    """A slice of rows or columns from one up to another, which begins and ends in these."""
+    given = f"the slice {start}:{stop}"
+    if 0 <= begin <= count and 0 <= end <= count:
+        return f"{given} ends at {name} {end}, before it begins at {name} {begin}: the image has {count} {name}s"
+    outside = " and ".join(f"{word} {name} {at}" for word, at in (("begins at", begin), ("ends at", end)) if not 0 <= at <= count)
+    return f"{given} {outside}: the image has {count} {name}s"
+
+
 def place(x: int, y: int, columns: int, rows: int) -> str:
     return f"there is no pixel in column {x} of row {y}: the image has {columns} columns and {rows} rows"
 
@@ -44,7 +53,7 @@ def target(width: int, height: int, columns: int, rows: int) -> str:
 
 
 def square(width: int, height: int) -> str:
-    return f"only a square is turned by a quarter or transposed in place, and the image has {width} by {height} pixels"
+    return f"only a square is turned by a quarter or transposed in place, and the image has {width} by {height} pixels: turned() and transposed() make copies of any size"
 
 
 def tile(width: int, height: int) -> str:

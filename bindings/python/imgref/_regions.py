@@ -95,7 +95,8 @@ def _shown(image: Image | Buffer) -> Image:
 def _of_cells(image: Image) -> Image:
     """The image, if each of its pixels is one cell of the library."""
     if image._pixels.step != 1:
-        raise TypeError(f"regions are of pixels of 1, 2, 4 or 8 bytes at a multiple of that, and pixels are {image._pixels!r}")
+        instead = "add a fourth number to each pixel, or take one channel by Image.copy_of(numpy.asarray(image)[..., 0])"
+        raise TypeError(f"regions are of pixels of 1, 2, 4 or 8 bytes at a multiple of that, and pixels are {image._pixels!r}: {instead}")
     return image
 
 
@@ -103,5 +104,6 @@ def _of_numbers(image: Image | Buffer, codes: str, why: str) -> Image:
     """The image, or one over a buffer, whose pixels are one number of such a format."""
     it = _shown(image)
     if it._pixels.channels != 1 or it._pixels.cell.code not in codes:
-        raise TypeError(f"{why}, and pixels are {it._pixels!r}")
+        instead = ": take one channel by Image.copy_of(numpy.asarray(image)[..., 0])" if it._pixels.channels > 1 else ""
+        raise TypeError(f"{why}, and pixels are {it._pixels!r}{instead}")
     return it

@@ -3,6 +3,7 @@ import array
 import copy
 import doctest
 import pickle
+import sys
 import threading
 import typing
 
@@ -52,6 +53,71 @@ def of_other_buffers():
     signed = Image(array.array("b", bytes(12)), 4, 3)
     check("two formats", raises(TypeError, both.copy_from, signed) and copied == bytes(range(12)))
     check("misaligned cells", raises(ValueError, Image, memoryview(bytearray(9))[1:].cast("i"), 1, 2))
+
+
+def of_subinterpreters():
+    """A subinterpreter says in one line that it can't load the package, and the main one goes on."""
+    code = f"import sys; sys.path[:] = {sys.path!r}; import imgref"
+    for isolated in (True, False):
+        try:
+            if sys.version_info >= (3, 13):
+                import _interpreters as others
+
+                made = others.create("isolated" if isolated else "legacy")
+                said = str(getattr(others.exec(made, code), "formatted", ""))
+            elif sys.version_info >= (3, 12):
+                import _xxsubinterpreters as others
+
+                made = others.create(isolated=isolated)
+                others.run_string(made, code)
+                said = ""
+            else:
+                return
+        except Exception as why:
+            said = str(why)
+        check(f"no subinterpreter, {'isolated' if isolated else 'with a shared lock'}: {said}", "the main interpreter alone" in said or not isolated and not said)
+    image = Image(bytearray(4), 2, 2)
+    image.fill(7)
+    check("the main interpreter goes on", image == Image(bytes([7] * 4), 2, 2))
+
+
+def of_halves():
+    """Windows of one image that share no pixel are copied onto each other, though their rows alternate in memory. Others are
+    refused, and nothing is written. Each pair of windows of 5 by 4, and of halves of images with colours and odd strides."""
+    windows = [Window(x, y, w, h) for x in range(5) for y in range(4) for w in (1, 2, 3) for h in (1, 2, 4) if x + w <= 5 and y + h <= 4]
+    is_well, copied, kept = True, 0, 0
+    for to in windows:
+        for source in windows:
+            if (to.width, to.height) != (source.width, source.height):
+                continue
+            frame = bytearray(range(28))
+            image, before = Image(frame, 5, 4, 7), Image(bytes(range(28)), 5, 4, 7)
+            is_apart = to.left + to.width <= source.left or source.left + source.width <= to.left or to.top + to.height <= source.top or source.top + source.height <= to.top
+            try:
+                image.copy_window(to, image.window(source))
+                due = before.copy()
+                due.copy_window(to, before.window(source))
+                is_well &= is_apart and image == due and frame[5:7] == bytes([5, 6])
+                copied += 1
+            except ValueError:
+                is_well &= not is_apart and frame == bytes(range(28))
+                kept += 1
+    check("windows of one image that share no pixel are copied", is_well and copied > 100 < kept)
+    for channels in (1, 2, 3, 4):
+        image = Image(bytearray(range(8 * 3 * channels)), 8, 3, channels=channels)
+        left, right, before = image[:, :4], image[:, 4:], image.copy()
+        left.copy_from(right)
+        check(f"halves, {channels} channels", left == right == before[:, 4:])
+        right[1:].copy_from(left[:2])
+        check(f"halves of other rows, {channels} channels", image[1:, 4:] == image[:2, :4] and image[0, 4] == before[0, 4])
+    # (a column that goes on in the next row: at stride 4, the window 2,0 of 4 columns over the same memory)
+    memory = bytearray(range(16))
+    one, other = Image(memory, 2, 3, 4), Image(memoryview(memory)[3:], 2, 3, 4)
+    check("columns that go on in the next row", raises(ValueError, one.copy_from, other) and memory == bytes(range(16)))
+    other = Image(memoryview(memory)[2:], 2, 3, 4)
+    one.copy_from(other)
+    check("columns in the padding", list(memory) == [2, 3, 2, 3, 6, 7, 6, 7, 10, 11, 10, 11, 12, 13, 14, 15])
+    check("another stride", raises(ValueError, Image(memory, 2, 3, 4).copy_from, Image(memoryview(memory)[2:], 2, 3, 3)))
 
 
 def of_equal_images():
@@ -108,6 +174,8 @@ def of_hints():
 
 of_a_bytearray()
 of_other_buffers()
+of_subinterpreters()
+of_halves()
 of_equal_images()
 of_copies()
 of_threads()

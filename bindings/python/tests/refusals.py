@@ -2,6 +2,7 @@
 import array
 import pickle
 
+import imgref
 from counting import check, end, exported, numpy_or_none, raises
 from imgref import Image, Refused, Window
 
@@ -78,6 +79,10 @@ def of_windows():
     refused("the window 3,0,2,1 reaches column 5 of 4", 2, colours.mosaic_means, (3, 0, 2, 1), 2, 2)
     refused("the window 1,0,4,1 reaches column 5 of 4", 2, image.move_window, (0, 0, 4, 1), (1, 0, 4, 1))
     refused("the window 1,0,4,1 reaches column 5 of 4", 2, image.move_window, (1, 0, 4, 1), (0, 9, 4, 1))
+    refused("the slice 300:400 begins at row 300 and ends at row 400: the image has 48 rows", 2, lambda: wide[300:400, 0:10])
+    refused("the slice -58:4 ends at column 4, before it begins at column 6: the image has 64 columns", 2, lambda: wide[22:40, -58:4])
+    refused("the slice :65 ends at column 65: the image has 64 columns", 2, lambda: wide[:, :65])
+    refused("the slice -49: begins at row -1: the image has 48 rows", 2, lambda: wide[-49:])
     for given in ((0, 0, 1), [0, 0, 1, 1, 1], range(9)):
         says(ValueError, f"a window is four numbers (left, top, width, height), not {given!r}", image.window, given)
     says(ValueError, "no number of pixels, columns or rows: -1", image.window, (0, -1, 1, 1))
@@ -88,8 +93,8 @@ def of_sizes():
     refused("the first window has 2 by 2 pixels, and the second has 2 by 1", 3, image.move_window, (0, 0, 2, 2), (0, 0, 2, 1))
     refused("3 by 4 pixels come out of the turn, and the target has 4 by 3", 3, fixed.turn_into, image, "right")
     refused("4 by 3 pixels come out of the turn, and the target has 2 by 2", 3, fixed.turn_into, Image(bytearray(4), 2, 2), "half")
-    refused("only a square is turned by a quarter or transposed in place, and the image has 4 by 3 pixels", 3, image.turn, "left")
-    refused("only a square is turned by a quarter or transposed in place, and the image has 4 by 3 pixels", 3, image.transpose)
+    refused("only a square is turned by a quarter or transposed in place, and the image has 4 by 3 pixels: turned() and transposed() make copies of any size", 3, image.turn, "left")
+    refused("only a square is turned by a quarter or transposed in place, and the image has 4 by 3 pixels: turned() and transposed() make copies of any size", 3, image.transpose)
 
 
 def of_places():
@@ -106,6 +111,10 @@ def of_pixels():
     says(TypeError, "the target has pixels of one number of format '<d', and the image has pixels of one number of format 'B'", image.turn_into, reals, "half")
     says(ValueError, "both images have the same memory", image.copy_from, image.window(image.whole))
     says(TypeError, "for reading alone: copy() makes", fixed.put, 0, 0, 1)
+    says(TypeError, "a value is missing: fill((0, 0, 1, 1), value), or fill(value=(0, 0, 1, 1)) for all pixels", colours.fill, (0, 0, 1, 1))
+    says(TypeError, "take one channel by Image.copy_of(numpy.asarray(image)[..., 0])", imgref.flood_fill, colours, (0, 0), 1)
+    says(TypeError, "add a fourth number to each pixel", imgref.components, colours)
+    says(TypeError, "take one channel by Image.copy_of(numpy.asarray(image)[..., 0])", imgref.histogram, colours)
     says(ValueError, "256 doesn't fit into a cell of format 'B'", image.put, 0, 0, 256)
     says(ValueError, "a colour is 3 numbers, and (1, 2) has 2", colours.put, 0, 0, (1, 2))
     for given in ({1, 2, 3}, frozenset((1, 2, 3)), {1: 2, 2: 3, 3: 4}, {1: 2, 2: 3, 3: 4}.keys()):

@@ -1,3 +1,4 @@
+pub mod FillsFirst
 pub mod PictureSizes
 pub mod Sizes
 pub mod Started

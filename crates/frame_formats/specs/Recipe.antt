@@ -5,6 +5,7 @@ use Rattle.std.specs.declared.vec.Vec.{Vec}
 use Rattle.image_planes.specs.Changes.{Job, jobs_len, changed_planes}
 use Rattle.image_planes.specs.Resized.{Resizing, resized_planes, sources_len, targets_len, new_width, new_height}
 use Rattle.image_planes.specs.Targets.{resizing_of}
+use Rattle.image_planes.specs.Filled.{PlanesUnfilled}
 use Rattle.image_planes.specs.Unseen.{PlanesAlike}
 use Rattle.image_planes.specs.declared.target.Target.{Target}
 use Rattle.frame_heads.specs.Format.{format_of, is_upright}
@@ -18,6 +19,7 @@ use Rattle.frame_formats.specs.Steps.{all_some}
 use Rattle.frame_heads.specs.Heads.{head_text}
 use Rattle.frame_heads.specs.Picture.{picture, picture_of, is_greatest}
 use Rattle.frame_edits.specs.Edits.{Edits}
+use Rattle.frame_edits.specs.Order.{covers_first}
 use Rattle.text_model.specs.Reading.{◌>>=◌}
 use Rattle.frame_edits.specs.declared.framing.Framing.{Framing}
 use Rattle.frame_heads.specs.declared.header.Format.{Format}
@@ -106,3 +108,14 @@ PicturesHide = (e : Edits) (p : Picture) (r : Recipe) → picture_recipe e p ≡
 -- what is written before a picture is the head of one
 abbrev pub HeadsAreRead : Type 0
 HeadsAreRead = (e : Edits) (p : Picture) (r : Recipe) → 0 < p.height → is_greatest p.greatest ≡ true → picture_recipe e p ≡ Some r → (q : Picture) × (picture_of r.head ≡ Some q)
+
+-- frames that differ only in what covers and fills fill differ only in what is hidden
+abbrev pub HidesFilled : Recipe → Type 0
+HidesFilled r = (number : ℕ) (p q : List ℕ) → PlanesUnfilled number r.jobs p q → PlanesAlike number r.jobs p q
+
+-- this is so where covers and fills come first
+abbrev pub VideosHideFilled : Type 0
+VideosHideFilled = (e : Edits) (line : List ℕ) (r : Recipe) → covers_first e.steps ≡ true → video_recipe e line ≡ Some r → HidesFilled r
+
+abbrev pub PicturesHideFilled : Type 0
+PicturesHideFilled = (e : Edits) (p : Picture) (r : Recipe) → covers_first e.steps ≡ true → picture_recipe e p ≡ Some r → HidesFilled r

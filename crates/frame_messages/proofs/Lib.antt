@@ -1,4 +1,3 @@
 pub mod AnyNoted
 pub mod BareFrames
-pub mod LateNotes
 pub mod UncoveredNotes

@@ -1,4 +1,5 @@
 pub mod Bare
+pub mod Ending
 pub mod Fault
 pub mod Lines
 pub mod Unreached

@@ -39,6 +39,9 @@ fn is_field(at: usize, field: &[u8]) -> bool {
     }
 }
 
+// So many bytes of a field are printed.
+const SHOWN: usize = 80;
+
 // Prints bytes unchanged. Those that no terminal is to get are printed by their numbers.
 fn say_bytes(rt: &HostRuntime, bytes: &[u8]) {
     if let Ok(text) = str::from_utf8(bytes) {
@@ -52,6 +55,17 @@ fn say_bytes(rt: &HostRuntime, bytes: &[u8]) {
             Ok(letter) if b' ' <= *byte && *byte <= b'~' => eprint!(rt; "{letter}"),
             _ => eprint!(rt; "\\x{byte:02x}"),
         };
+    }
+}
+
+// Prints the beginning of a field, and how long the rest is.
+fn say_front(rt: &HostRuntime, field: &[u8]) {
+    match field.get(..SHOWN) {
+        Some(front) if field.len() > SHOWN => {
+            say_bytes(rt, front);
+            let _ = eprint!(rt; " and {} bytes more", field.len() - SHOWN);
+        }
+        _ => say_bytes(rt, field),
     }
 }
 
@@ -107,7 +121,7 @@ fn say_bad_fields(rt: &HostRuntime, line: &[u8]) {
             continue;
         }
         let _ = eprint!(rt; "the {name} is ");
-        say_bytes(rt, field);
+        say_front(rt, field);
         if let Some(long) = too_long(at, field) {
             let _ = eprintln!(rt; ", which is {long}");
             return;

@@ -102,11 +102,13 @@ fn lines_of_boxes(
     Ok(numbers)
 }
 
-/// Finds the places of edits, whose numbers only grow, so that all lines are read once.
+/// Finds the places of edits. Where their numbers only grow, all lines are read once.
 #[derive(Drop)]
 pub(crate) struct Places<'a> {
     texts: Texts<'a>,
     alloc: Global,
+    // The last number, and its place.
+    last: Option<(usize, Place)>,
     // Those of the boxes, once one is looked for.
     boxes: Option<Vec<usize>>,
     lines: Option<Lines<'a>>,
@@ -117,11 +119,17 @@ impl<'a> Texts<'a> {
         Places {
             texts: self,
             alloc,
+            last: None,
             boxes: None,
-            lines: match self.edits {
-                Some(text) => Some(Lines::new(alloc, text)),
-                None => None,
-            },
+            lines: self.lines(alloc),
+        }
+    }
+
+    // The lines of the file of edits, from the first on.
+    fn lines(self, alloc: Global) -> Option<Lines<'a>> {
+        match self.edits {
+            Some(text) => Some(Lines::new(alloc, text)),
+            None => None,
         }
     }
 }
@@ -129,6 +137,21 @@ impl<'a> Texts<'a> {
 impl Places<'_> {
     /// The place of the edit of this number, counted from 0 with the boxes first.
     pub(crate) fn find(&mut self, number: usize) -> Place {
+        if let Some((last, place)) = self.last {
+            if number == last {
+                return place;
+            }
+            if number < last {
+                self.lines = self.texts.lines(self.alloc);
+            }
+        }
+        let place = self.look_for(number);
+        self.last = Some((number, place));
+        place
+    }
+
+    // The same for a number that is greater than the one before.
+    fn look_for(&mut self, number: usize) -> Place {
         if self.boxes.is_none() {
             let text = self.texts.boxes.unwrap_or(&[]);
             self.boxes = lines_of_boxes(self.alloc, text, self.texts.hold).ok();
@@ -153,10 +176,16 @@ impl Places<'_> {
 }
 
 /// Prints the place of an edit.
-pub(crate) fn say_place(rt: &HostRuntime, place: Place) {
+pub(crate) fn say_name(rt: &HostRuntime, place: Place) {
     let _ = match place {
-        Place::Box(line) => eprint!(rt; "line {line} of the boxes: "),
-        Place::Line(line) => eprint!(rt; "line {line}: "),
-        Place::Edit(number) => eprint!(rt; "edit {number}: "),
+        Place::Box(line) => eprint!(rt; "line {line} of the boxes"),
+        Place::Line(line) => eprint!(rt; "line {line}"),
+        Place::Edit(number) => eprint!(rt; "edit {number}"),
     };
+}
+
+/// The same before what is said of it.
+pub(crate) fn say_place(rt: &HostRuntime, place: Place) {
+    say_name(rt, place);
+    let _ = eprint!(rt; ": ");
 }

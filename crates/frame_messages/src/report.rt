@@ -3,10 +3,11 @@
 ghost use Rattle.std.specs.Prelude.{◌≡◌, ◌<◌, ◌+◌, ◌-◌, min, nat_lt, if◌then◌else◌, IfSome};
 ghost use Rattle.frame_messages.specs.Bare.{AreCounted, AreInOrder, bare_count, box_span, is_bare};
 
-use frame_edits::{Edit, Paint, Scope};
+use crate::placed::{flipped, framed};
+use frame_edits::{Edit, Edits, Framing, Paint, Scope};
 use frame_lists::Range;
 use frame_requests::{Seen, Shape};
-use image_planes::Change;
+use image_planes::{Change, Window};
 use std::alloc::{AllocError, Global};
 use std::io;
 use std::io::Write;
@@ -14,6 +15,8 @@ use std::io::Write;
 // What an edit does in which frames.
 #[derive(Clone, Copy)]
 struct Span {
+    // The number of the edit.
+    at: usize,
     first: u64,
     end: u64,
     edit: Edit,
@@ -36,23 +39,68 @@ fn is_drawn(edit: &Edit) -> bool {
         )
 }
 
+// The frames of an edit, where it has some.
+fn span_of(at: usize, edit: &Edit, shape: Shape) -> Option<Span> {
+    let (first, end) = edit.range.frames(shape.rate())?;
+    Some(Span {
+        at,
+        first,
+        end,
+        edit: *edit,
+    })
+}
+
 // The boxes and the covers, in the order of their first frames.
 fn spans_of(alloc: Global, steps: &[Edit], shape: Shape) -> Result<Vec<Span>, AllocError> {
     let mut spans = Vec::new(alloc);
-    for edit in steps {
-        if !is_drawn(edit) {
+    for at in 0..steps.len() {
+        if !is_drawn(&steps[at]) {
             continue;
         }
-        if let Some((first, end)) = edit.range.frames(shape.rate()) {
-            spans.push(Span {
-                first,
-                end,
-                edit: *edit,
-            })?;
+        if let Some(span) = span_of(at, &steps[at], shape) {
+            spans.push(span)?;
         }
     }
     spans.sort_by_key(|span| span.first)?;
     Ok(spans)
+}
+
+// The flips and half turns, in their order.
+fn flips_of(alloc: Global, steps: &[Edit], shape: Shape) -> Result<Vec<Span>, AllocError> {
+    let mut spans = Vec::new(alloc);
+    for at in 0..steps.len() {
+        if !matches!(steps[at].change, Change::Flip(_)) {
+            continue;
+        }
+        if let Some(span) = span_of(at, &steps[at], shape) {
+            spans.push(span)?;
+        }
+    }
+    Ok(spans)
+}
+
+// What moves the rectangles of a frame: flips, and the change of its size.
+#[derive(Clone, Copy)]
+struct Later<'a> {
+    flips: &'a [Span],
+    framing: Option<Framing>,
+}
+
+impl Later<'_> {
+    // Where the output has the rectangle that an edit draws in a frame.
+    fn place(self, span: &Span, shape: Shape, frame: u64) -> Window {
+        let size = shape.size();
+        let mut window = shape.window(span.edit);
+        for flip in self.flips {
+            if flip.at <= span.at || frame < flip.first || flip.end <= frame {
+                continue;
+            }
+            if let Change::Flip(axes) = flip.edit.change {
+                window = flipped(window, axes, size);
+            }
+        }
+        framed(window, self.framing, size)
+    }
 }
 
 // Adds those of these spans that begin up to a frame, and returns the others.
@@ -76,13 +124,14 @@ fn take_begun<'a>(
 fn write_frame<W: Write>(
     alloc: Global,
     now: &[Span],
+    later: Later<'_>,
     shape: Shape,
     frame: u64,
     writer: &mut W,
 ) -> io::Result<()> {
     let number = frame.saturating_add(1);
     for span in now {
-        let window = shape.window(span.edit);
+        let window = later.place(span, shape, frame);
         if window.width == 0 || window.height == 0 {
             continue;
         }
@@ -95,13 +144,13 @@ fn write_frame<W: Write>(
     Ok(())
 }
 
-/// Writes the rectangles of boxes and covers of so many frames, as they were drawn: a line
-/// `frame,left,top,width,height` for each. Frames count from 1.
+/// Writes where the output has the boxes and covers of so many frames, after flips and the crop. Each
+/// has a line `frame,left,top,width,height`. Frames count from 1.
 pub fn write_report<W: Write>(
     alloc: Global,
     seen: &Seen,
     count: u64,
-    steps: &[Edit],
+    edits: &Edits,
     writer: &mut W,
 ) -> io::Result<()> {
     let Some(shapes) = seen.shapes() else {
@@ -110,7 +159,12 @@ pub fn write_report<W: Write>(
     let Some((_, shape)) = shapes.first() else {
         return Ok(());
     };
-    let spans = spans_of(alloc, steps, *shape)?;
+    let spans = spans_of(alloc, &edits.steps, *shape)?;
+    let flips = flips_of(alloc, &edits.steps, *shape)?;
+    let moved = Later {
+        flips: &flips,
+        framing: edits.framing,
+    };
     let mut later: &[Span] = &spans;
     let mut now = Vec::new(alloc);
     let mut shape = *shape;
@@ -124,7 +178,7 @@ pub fn write_report<W: Write>(
         }
         later = take_begun(later, frame, &mut now)?;
         now.retain(|span| frame < span.end);
-        write_frame(alloc, &now, shape, frame, writer)?;
+        write_frame(alloc, &now, moved, shape, frame, writer)?;
     }
     Ok(())
 }

@@ -1,3 +1,4 @@
 pub mod FirstUncovered
+pub mod LatePairs
 pub mod OptionsRead
 pub mod Refusals

@@ -2,6 +2,7 @@
 //! was found of the input of a run.
 #![tactic(auto)]
 
+mod apart;
 mod asked;
 mod boxes;
 mod late;
@@ -9,9 +10,10 @@ mod options;
 mod seen;
 mod words;
 
+pub use apart::{FileId, Files, Role, are_one, reads_input_twice, shared_file};
 pub use asked::edits_asked;
 pub use boxes::with_boxes;
-pub use late::{Early, covers_late};
+pub use late::{Hiding, late_pairs};
 pub use options::{Misread, Options, read_options};
 pub use seen::{Seen, Shape, Stretch, Uncovered};
 pub use words::{Refusal, edits_of_lines, edits_of_words, has_blur, words_of};

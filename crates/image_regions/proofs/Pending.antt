@@ -1,12 +1,12 @@
 -- Places that are pending: one is noted in a room, or taken off.
 use Rattle.std.proofs.Common.{◌≡◌, ◌≢◌, true, false, Some, ℕ, ◌+◌, ◌-◌, ◌*◌, ◌/◌, ◌%◌, ◌<◌, ◌≤◌, zero, suc, Bool, List, [], ◌∷◌, ◌++◌, length, take, set, get_or, sym, ap, ◌∙◌, subst, arith, ⊎_elim}
 use Rattle.std.specs.List.{Contains}
-use Rattle.std.proofs.lemmas.Bool.{cases_Bool}
+use Rattle.std.proofs.lemmas.Bool.{cases_Bool, cases_lt}
 use Rattle.std.proofs.lemmas.Bool.Decides.{eqb_tells}
 use Rattle.std.proofs.lemmas.Grind.{flat_map-append}
 use Rattle.std.proofs.lemmas.List.{append-nil, append_assoc, get_or-set_same, get_or-set_other, take_more, take_more_set}
 use Rattle.std.proofs.lemmas.List.Elements.{Contains-append_left, Contains-append_right, Contains-append_cases}
-use Rattle.std.proofs.Math.Nat.{mul-le-mul}
+use Rattle.std.proofs.Math.Nat.{div-add-mod, mul-le-mul}
 use Rattle.std.proofs.lemmas.Nat.{mod-mul-add, div-mul-add}
 use Rattle.image_model.specs.Connected.{beside}
 use Rattle.image_model.specs.Counts.{hits, place_hits, places_where, places_with}
@@ -52,6 +52,15 @@ pub number_within : (width height x y n : ℕ) → x < width → y < height → 
 number_within width height x y n column line is =
     let lines : (y + 1) * width ≤ height * width = mul-le-mul (omega (arith, line)) (omega arith) in
     omega (arith, is, column, lines)
+
+-- the row of a place's number
+pub row_within : (width height n : ℕ) → n < width * height → n / width < height
+row_within width height n inside = ⊎_elim
+    (λ low. low)
+    (λ high.
+    let rows : height * width ≤ (n / width) * width = mul-le-mul high (omega arith) in
+    absurd (omega (arith, inside, rows, div-add-mod n width)))
+    (cases_lt (n / width) height)
 
 -- ---- lists in another order
 

@@ -27,13 +27,6 @@ module _ {P : Type 0} (h : Grid P) (p : P) where
   pub shows_both : (y from x to : ℕ) → ShowsAlong h p y from x → ShowsAlong h p y x to → ShowsAlong h p y from to
   shows_both y from x to before after u l r = ⊎_elim (λ low. before u l low) (λ high. after u high r) (cases_lt u x)
 
-  -- it has the place that it was found from
-  pub ends_after : (y x to : ℕ) → x ≤ to → h.pixel x y ≡ Some p → h.pixel to y ≢ Some p → x < to
-  ends_after y x to after shows ends = ⊎_elim
-      (λ at. absurd (ends (ap (λ z. h.pixel z y) (sym at.1) ∙ shows)))
-      (λ other. omega (arith, other.1, after))
-      (eqb_tells x to)
-
 -- ---- labels that are added
 
 -- a place that has the label keeps it

@@ -18,7 +18,9 @@ struct Fill<T> {
 }
 
 // A place that shows the seed gets the value, and is pending from then on: the places beside it have
-// to be looked at. So a place is pending at most once. Returns how many places are.
+// to be looked at. So a place is pending at most once. Returns how many places are. Where another
+// process changes the pixels meanwhile, a place may be pending again and again: the test of the room
+// is for that.
 #[tactic(auto, using(image_model::proofs::Laws::reads, image_model::proofs::Laws::writes))]
 fn fill_one<T: Copy + PartialEq>(
     fill: &Fill<T>,
@@ -44,6 +46,10 @@ fn fill_one<T: Copy + PartialEq>(
         return count;
     }
     put(cells, fill.shape, x, y, fill.value);
+    // (after the write, or the compiler tests it for places of other pixels too)
+    if count >= room.len() {
+        return count;
+    }
     // (both sizes are below 2^32, so the number fits)
     let _rows = fill.shape.height();
     room[count] = y * fill.shape.width() + x;
@@ -69,8 +75,12 @@ fn fill_around<T: Copy + PartialEq>(
     ensures fills { FillsPlaces fill.now T.eq cells.old count room.old cells.new result room.new }
 {
     let width = fill.shape.width();
-    let _height = fill.shape.height();
+    let height = fill.shape.height();
     let (x, y) = (number % width, number / width);
+    // (known to the compiler from here on, this saves two tests)
+    if y >= height {
+        return count;
+    }
     let above = (x, y.saturating_sub(1));
     let before = (x.saturating_sub(1), y);
     let count = fill_one(fill, cells, room, count, above);

@@ -80,7 +80,7 @@ fn run_start<T: Copy + PartialEq>(
 // The first column from some place on for which a test fails, or the width.
 #[inline(always)]
 fn end_of<F: Fn(usize) -> bool>(shape: Shape, x: usize, passes: F) -> usize
-    requires column { x < shape_width shape }
+    requires column { x ≤ shape_width shape }
     requires callable { (u : ℕ) → u < shape_width shape → F.pre passes u }
     ensures after { x ≤ result }
     ensures within { result ≤ shape_width shape }
@@ -98,7 +98,7 @@ fn end_of<F: Fn(usize) -> bool>(shape: Shape, x: usize, passes: F) -> usize
 // The first column from some place on whose place isn't open, or the width.
 fn run_end<T: Copy + PartialEq>(search: &Search<'_, T>, labels: &[u64], x: usize, y: usize) -> usize
     requires labels { HasLabels search.now labels.now }
-    requires column { x < shape_width search.now.shape }
+    requires column { x ≤ shape_width search.now.shape }
     requires row { y < shape_height search.now.shape }
     ensures within { result ≤ shape_width search.now.shape }
     ensures run { EndsAt (open_places search.now T.eq labels.now) true y x result }
@@ -135,7 +135,8 @@ fn fill_run(labels: &mut [u64], shape: Shape, label: u64, run: Run)
 }
 
 // Gives the label to the run of an open place, which is pending from then on: the places above and
-// below have to be looked at. Returns the column after the run.
+// below have to be looked at. Returns the column after the run. The pixel of the place isn't read
+// again: another process may have changed it, and then a run of no place would be pending.
 fn label_run<T: Copy + PartialEq>(
     search: &Search<'_, T>,
     labels: &mut [u64],
@@ -157,17 +158,18 @@ fn label_run<T: Copy + PartialEq>(
     ensures after { x < result }
     ensures within { result ≤ shape_width search.now.shape }
 {
+    // (both sizes are below 2^32, so no number overflows)
+    let (_columns, _rows) = (search.shape.width(), search.shape.height());
     let from = run_start(search, labels, x, y);
-    let to = run_end(search, labels, x, y);
+    let to = run_end(search, labels, x + 1, y);
     fill_run(labels, search.shape, search.label, Run { y, from, to });
-    // (both sizes are below 2^32, so the number fits)
-    let _rows = search.shape.height();
     room[count] = y * search.shape.width() + from;
     to
 }
 
 // Looks at the places of a run: the run of each open one gets the label. Returns how many runs are
-// pending.
+// pending. At least one place gets the label for each, whatever another process does to the pixels:
+// so the labels bound the room.
 fn look_along<T: Copy + PartialEq>(
     search: &Search<'_, T>,
     labels: &mut [u64],

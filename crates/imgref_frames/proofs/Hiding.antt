@@ -4,9 +4,10 @@ use Rattle.std.specs.List.{AllByRecursion}
 use Rattle.std.proofs.lemmas.List.Elements.{recursion_from_All}
 use Rattle.text_model.proofs.Options.{some_is}
 use Rattle.frame_heads.specs.Picture.{ApartHeads, BeginsWithLetter}
+use Rattle.image_planes.specs.Unseen.{PlanesAlike}
 use Rattle.frame_heads.specs.Format.{format_of}
 use Rattle.frame_edits.specs.Edits.{Edits}
-use Rattle.frame_formats.specs.Recipe.{Recipe, HidesAlike, VideosHide, PicturesHide, video_recipe}
+use Rattle.frame_formats.specs.Recipe.{Recipe, HidesAlike, PicturesHide, PicturesHideFilled, VideosHide, VideosHideFilled, video_recipe}
 use Rattle.imgref_frames.specs.Alike.{Alike, CutAlike, PieceAlike, PiecesAlike, Hides}
 use Rattle.imgref_frames.specs.Passing.{IsCut, IsNotEditedNext, AtHead, Anything}
 use Rattle.imgref_frames.specs.Pictures.{PictureHead, BeginsPicture, IsNoPicture}
@@ -23,6 +24,8 @@ use Rattle.imgref_frames.proofs.Pieces.{Readable, frames_readable, pictures_read
 pub record Laws : Type 0 where
   pub videos : VideosHide
   pub pictures : PicturesHide
+  pub videos_filled : VideosHideFilled
+  pub pictures_filled : PicturesHideFilled
   pub apart : ApartHeads
   pub letter : BeginsWithLetter
 
@@ -37,10 +40,10 @@ head_hides laws edit pictures is head recipe h = laws.pictures edit h.picture re
 -- ---- pieces
 
 module _ (heads : List ℕ → Recipe → Type 0) (law : Readable heads) (hides : (head : List ℕ) (recipe : Recipe) → heads head recipe → HidesAlike recipe) where
-  one_recipe : (n : ℕ) (p q : Piece) → PieceAlike heads n p q → p.recipe ≡ q.recipe
+  one_recipe : (n : ℕ) (p q : Piece) → PieceAlike PlanesAlike heads n p q → p.recipe ≡ q.recipe
   one_recipe n p q a = (law.apart p.head q.head [] [] p.recipe q.recipe a.mine.0 a.theirs.0 (ap (λ l. l ++ []) a.same_head)).1
 
-  same_text : (n : ℕ) (p q : Piece) → PieceAlike heads n p q → made_text n p ≡ made_text n q
+  same_text : (n : ℕ) (p q : Piece) → PieceAlike PlanesAlike heads n p q → made_text n p ≡ made_text n q
   same_text n p q a =
       let same = one_recipe n p q a in
       ap (λ l. p.recipe.head ++ l) (hides p.head p.recipe a.mine.0 n p.cells q.cells a.alike) ∙ ap (λ (r : Recipe). r.head ++ r.frame n q.cells) same
@@ -59,7 +62,7 @@ module _ (heads : List ℕ → Recipe → Type 0) (law : Readable heads) (hides 
   mine_cut rest other cut = record { head = cut.head; cells = cut.cells; recipe = cut.recipe; is = cut.is; short = cut.short; read = cut.mine_is }
 
   carried : (ends : List ℕ → Type 0) → ((p q : Piece) (a b : List ℕ) → IsPiece heads p → IsPiece heads q → ends (piece_text p ++ a) → ends (piece_text q ++ b))
-      → (n : ℕ) (mine : List Piece) (behind : List ℕ) (ps qs : List Piece) (rest other : List ℕ) → (rest ≡ other) ⊎ CutAlike heads rest other → (ends rest → ends other) → AllByRecursion (IsPiece heads) mine → PiecesAlike heads n ps qs
+      → (n : ℕ) (mine : List Piece) (behind : List ℕ) (ps qs : List Piece) (rest other : List ℕ) → (rest ≡ other) ⊎ CutAlike heads rest other → (ends rest → ends other) → AllByRecursion (IsPiece heads) mine → PiecesAlike PlanesAlike heads n ps qs
       → pieces_text mine ++ behind ≡ pieces_text ps ++ rest → Carried ends n mine behind (pieces_text qs ++ other)
   carried ends moves n [] behind [] [] rest other last shifts are alike e = record {
     pieces = [];
@@ -210,10 +213,10 @@ module _ (laws : Laws) (edit : Edits) (mine theirs : List ℕ) (a : Alike edit m
       let is_stream : IsStream edit (video line recipe) = subst (IsStream edit) e a.is in
       let same : line' ≡ line = (one_front line' line more (pieces_text a.others ++ a.other) (recursion_from_All _ line' one) (recursion_from_All _ line is_stream.0) (sym is ∙ video_is line recipe e theirs a.others a.other a.theirs_is)).0 in
       none line' (pieces_text a.pieces ++ a.rest) one short (video_is line recipe e mine a.pieces a.rest a.mine_is ∙ ap (λ (l : List ℕ). l ++ 10 ∷ (pieces_text a.pieces ++ a.rest)) (sym same))
-  no_stream_too pictures e none = no_picture_too a.pieces a.others (subst (λ (t : Stream). PiecesAlike (heads_of edit t) 0 a.pieces a.others) e a.alike) (subst (λ (t : Stream). (a.rest ≡ a.other) ⊎ CutAlike (heads_of edit t) a.rest a.other) e a.ends)
+  no_stream_too pictures e none = no_picture_too a.pieces a.others (subst (λ (t : Stream). PiecesAlike PlanesAlike (heads_of edit t) 0 a.pieces a.others) e a.alike) (subst (λ (t : Stream). (a.rest ≡ a.other) ⊎ CutAlike (heads_of edit t) a.rest a.other) e a.ends)
       (a.mine_is ∙ ap (λ (t : Stream). front t ++ (pieces_text a.pieces ++ a.rest)) e) (a.theirs_is ∙ ap (λ (t : Stream). front t ++ (pieces_text a.others ++ a.other)) e) none
     where
-      no_picture_too : (ps qs : List Piece) → PiecesAlike (PictureHead edit) 0 ps qs → (a.rest ≡ a.other) ⊎ CutAlike (PictureHead edit) a.rest a.other → mine ≡ pieces_text ps ++ a.rest → theirs ≡ pieces_text qs ++ a.other → IsNoPicture mine → IsNoPicture theirs
+      no_picture_too : (ps qs : List Piece) → PiecesAlike PlanesAlike (PictureHead edit) 0 ps qs → (a.rest ≡ a.other) ⊎ CutAlike (PictureHead edit) a.rest a.other → mine ≡ pieces_text ps ++ a.rest → theirs ≡ pieces_text qs ++ a.other → IsNoPicture mine → IsNoPicture theirs
       no_picture_too [] [] alike last is it none = elim last [
         | inl same ↦ subst IsNoPicture (is ∙ same ∙ sym it) none
         | inr cut ↦ absurd (no_begin mine none (record { head = cut.head; more = cut.cells; picture = cut.is.picture; is = cut.is.is; read = is ∙ cut.mine_is }))

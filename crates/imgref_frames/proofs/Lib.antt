@@ -1,6 +1,7 @@
 pub mod CarriedPieces
 pub mod Carrying
 pub mod CellsRead
+pub mod Covered
 pub mod FrameLines
 pub mod HandedOn
 pub mod Heads

@@ -1,25 +1,32 @@
 -- Inputs that differ only in what an edit hides, and runs that can't tell them apart.
 use Rattle.std.specs.Prelude.{◌≡◌, ◌<◌, ◌⊎◌, ℕ, ◌+◌, Bool, true, false, List, [], ◌∷◌, ◌++◌, length, Option, Some, IfSome, Result, Ok, Err}
+use Rattle.image_planes.specs.Changes.{Job}
+use Rattle.image_planes.specs.Filled.{PlanesUnfilled}
 use Rattle.image_planes.specs.Unseen.{PlanesAlike}
 use Rattle.frame_edits.specs.Edits.{Edits}
+use Rattle.frame_edits.specs.Order.{covers_first}
 use Rattle.frame_formats.specs.Recipe.{Recipe}
 use Rattle.imgref_frames.specs.Program.{Stream, IsStream, begins_picture, are_pictures, front, heads_of, Writes}
 use Rattle.imgref_frames.specs.Stream.{Piece, IsPiece, pieces_text}
 use Rattle.frame_messages.specs.declared.fault.RunFault.{RunFault}
 use Rattle.frame_messages.specs.declared.fault.RunFault.TheVariants.{Header, Outside, Frame, Memory, Input, Output}
 
--- two frames or pictures of this number have the same head, and differ only in what the steps of their number hide
-pub record PieceAlike (heads : List ℕ → Recipe → Type 0) (number : ℕ) (p q : Piece) : Type 0 where
+-- how the cells of two frames of a number may differ, by their planes
+abbrev pub Cells : Type 1
+Cells = ℕ → List Job → List ℕ → List ℕ → Type 0
+
+-- two frames or pictures of this number have the same head, and differ only so
+pub record PieceAlike (cells : Cells) (heads : List ℕ → Recipe → Type 0) (number : ℕ) (p q : Piece) : Type 0 where
   pub mine : IsPiece heads p
   pub theirs : IsPiece heads q
   pub same_head : p.head ≡ q.head
-  pub alike : PlanesAlike number p.recipe.jobs p.cells q.cells
+  pub alike : cells number p.recipe.jobs p.cells q.cells
 
 -- the same of each two, from this number on
-abbrev pub PiecesAlike : (List ℕ → Recipe → Type 0) → ℕ → List Piece → List Piece → Type 0
-PiecesAlike heads number [] [] = Unit {0}
-PiecesAlike heads number (p ∷ ps) (q ∷ qs) = PieceAlike heads number p q × PiecesAlike heads (number + 1) ps qs
-PiecesAlike heads number _ _ = ⊥
+abbrev pub PiecesAlike : Cells → (List ℕ → Recipe → Type 0) → ℕ → List Piece → List Piece → Type 0
+PiecesAlike cells heads number [] [] = Unit {0}
+PiecesAlike cells heads number (p ∷ ps) (q ∷ qs) = PieceAlike cells heads number p q × PiecesAlike cells heads (number + 1) ps qs
+PiecesAlike cells heads number _ _ = ⊥
 
 -- both are one head, and then any cells, too few for it
 pub record CutAlike (heads : List ℕ → Recipe → Type 0) (rest other : List ℕ) : Type 0 where
@@ -33,20 +40,28 @@ pub record CutAlike (heads : List ℕ → Recipe → Type 0) (rest other : List 
   pub mine_is : rest ≡ head ++ cells
   pub theirs_is : other ≡ head ++ others
 
--- two inputs are streams of one kind, with the same heads, cells that differ only in what the edits hide, and the same rest after them, or a frame that is cut
-pub record Alike (edit : Edits) (mine theirs : List ℕ) : Type 0 where
+-- two inputs are streams of one kind, with the same heads, cells that differ only so, and the same rest after them, or a frame that is cut
+pub record DifferOnly (cells : Cells) (edit : Edits) (mine theirs : List ℕ) : Type 0 where
   pub stream : Stream
   pub is : IsStream edit stream
   pub mine_kind : begins_picture mine ≡ are_pictures stream
   pub theirs_kind : begins_picture theirs ≡ are_pictures stream
   pub pieces : List Piece
   pub others : List Piece
-  pub alike : PiecesAlike (heads_of edit stream) 0 pieces others
+  pub alike : PiecesAlike cells (heads_of edit stream) 0 pieces others
   pub rest : List ℕ
   pub other : List ℕ
   pub ends : (rest ≡ other) ⊎ CutAlike (heads_of edit stream) rest other
   pub mine_is : mine ≡ front stream ++ (pieces_text pieces ++ rest)
   pub theirs_is : theirs ≡ front stream ++ (pieces_text others ++ other)
+
+-- they differ only in what the edits hide
+abbrev pub Alike : Edits → List ℕ → List ℕ → Type 0
+Alike = DifferOnly PlanesAlike
+
+-- they differ only in what one of the covers and fills has, wherever flips bring it
+abbrev pub AlikeUncovered : Edits → List ℕ → List ℕ → Type 0
+AlikeUncovered = DifferOnly PlanesUnfilled
 
 -- whatever was returned and written is right for each alike input too
 abbrev pub Hides : Result ℕ RunFault → Edits → Option (List ℕ) → Option (List ℕ) → Option (List ℕ) → Type 0
@@ -79,3 +94,13 @@ abbrev pub OneOutput : Type 0
 OneOutput =
     (edit : Edits) (mine theirs old new other : List ℕ) (r s : Result ℕ RunFault) → (mine ≡ theirs) ⊎ Alike edit mine theirs
     → Writes r edit (Some mine) (Some old) (Some new) → Writes s edit (Some theirs) (Some old) (Some other) → Agree r s new other
+
+-- where covers and fills come first, runs over inputs that differ only in what these cover agree: result and output reveal nothing of it
+abbrev pub OneOutputCovered : Type 0
+OneOutputCovered =
+    (edit : Edits) (mine theirs old new other : List ℕ) (r s : Result ℕ RunFault) → covers_first edit.steps ≡ true → AlikeUncovered edit mine theirs
+    → Writes r edit (Some mine) (Some old) (Some new) → Writes s edit (Some theirs) (Some old) (Some other) → Agree r s new other
+
+-- and what was returned and written is right for each such input too
+abbrev pub HidesCovered : Result ℕ RunFault → Edits → Option (List ℕ) → Option (List ℕ) → Option (List ℕ) → Type 0
+HidesCovered result edit input old new = covers_first edit.steps ≡ true → IfSome input (λ mine. (theirs : List ℕ) → AlikeUncovered edit mine theirs → Writes result edit (Some theirs) old new)

@@ -3,6 +3,7 @@
 ghost use Rattle.std.specs.Io.{WritesAtMost};
 
 use devices::Retried;
+use frame_requests::{FileId, are_one};
 use std::fs::File;
 use std::io::{Error, ErrorKind, Read, Stdin, Stdout, Write};
 use std::os::fd::AsRawFd;
@@ -14,6 +15,11 @@ const TRIES: u32 = 1000;
 
 // So many bytes of a file's name are kept in those: with `.999.part` it has at most 255.
 const LONGEST: usize = 246;
+
+// Where standard input and standard output have names.
+const STDIN: &str = "/proc/self/fd/0";
+
+const STDOUT: &str = "/proc/self/fd/1";
 
 // So many bytes at the front of the input are kept, to tell why it begins with no frame.
 const FRONT: usize = 1024;
@@ -249,8 +255,57 @@ fn create_new(rt: &HostRuntime, name: &str) -> io::Result<Option<File>> {
     }
 }
 
-/// The file that gets the output of this name: that to which a symbolic link leads, or its own.
-pub(crate) fn target_of(rt: &HostRuntime, name: &str) -> io::Result<String> {
+// A file that isn't there, by its folder and its name there. Where that folder isn't there either, its
+// whole name tells.
+fn missing_id<'a>(rt: &HostRuntime, name: &'a str) -> FileId<'a> {
+    let (folder, last) = match name.rsplit_once('/') {
+        Some(("", last)) => ("/", last),
+        Some(parts) => parts,
+        None => (".", name),
+    };
+    match fs::metadata(rt, folder) {
+        Ok(found) => FileId {
+            device: found.dev(),
+            inode: found.ino(),
+            name: last.as_bytes(),
+        },
+        Err(_) => FileId {
+            device: 0,
+            inode: 0,
+            name: name.as_bytes(),
+        },
+    }
+}
+
+/// The file of this name, also by another name or a link to it. `None` for a pipe, a folder and a
+/// device.
+pub(crate) fn id_of<'a>(rt: &HostRuntime, name: &'a str) -> Option<FileId<'a>> {
+    match fs::metadata(rt, name) {
+        Ok(found) => {
+            if !found.is_file() {
+                return None;
+            }
+            Some(FileId {
+                device: found.dev(),
+                inode: found.ino(),
+                name: b"",
+            })
+        }
+        Err(_) => Some(missing_id(rt, name)),
+    }
+}
+
+/// The file that standard input or standard output is.
+pub(crate) fn standard_id(rt: &HostRuntime, writes: bool) -> Option<FileId<'static>> {
+    if writes {
+        id_of(rt, STDOUT)
+    } else {
+        id_of(rt, STDIN)
+    }
+}
+
+// The file that gets the output of this name: that to which a symbolic link leads, or its own.
+fn target_of(rt: &HostRuntime, name: &str) -> io::Result<String> {
     match fs::symlink_metadata(rt, name) {
         Ok(found) if found.file_type().is_symlink() => {
             Ok(fs::canonicalize(rt, name)?.into_string())
@@ -277,9 +332,9 @@ fn shortened(name: &str) -> &str {
     name
 }
 
-/// A new file beside the one of this name, with the same permissions, and the name that it has
-/// until it is whole.
-pub(crate) fn create_beside(rt: &HostRuntime, name: &str) -> io::Result<(File, String)> {
+// A new file beside the one of this name, with the same permissions, and the name that it has until
+// it is whole.
+fn create_beside(rt: &HostRuntime, name: &str) -> io::Result<(File, String)> {
     check_name(rt, name)?;
     let front = shortened(name);
     for number in 0..TRIES {
@@ -300,14 +355,46 @@ pub(crate) fn create_beside(rt: &HostRuntime, name: &str) -> io::Result<(File, S
     ))
 }
 
-/// Gives a file that is whole its name. Where that fails, the file is removed.
-pub(crate) fn give_name(rt: &HostRuntime, beside: &str, name: &str) -> io::Result<()> {
-    match fs::rename(rt, beside, name) {
-        Ok(()) => Ok(()),
-        Err(error) => {
-            let _ = fs::remove_file(rt, beside);
-            Err(error)
+/// A new file, which has another name beside its own until it is whole.
+#[derive(Drop)]
+pub(crate) struct NewFile {
+    beside: String,
+    target: String,
+}
+
+impl NewFile {
+    /// A new file that is to have this name.
+    pub(crate) fn create(rt: &HostRuntime, name: &str) -> io::Result<(File, NewFile)> {
+        let target = target_of(rt, name)?;
+        let (file, beside) = create_beside(rt, target.as_str())?;
+        Ok((file, NewFile { beside, target }))
+    }
+
+    /// Another file of this name would be written over this one.
+    pub(crate) fn check_apart(&self, rt: &HostRuntime, name: &str) -> io::Result<()> {
+        if are_one(id_of(rt, name), id_of(rt, self.beside.as_str())) {
+            Err(Error::new(
+                ErrorKind::AlreadyExists,
+                "the output has this name until it is whole",
+            ))
+        } else {
+            Ok(())
         }
+    }
+
+    /// Gives it its name.
+    pub(crate) fn give_name(&self, rt: &HostRuntime) -> io::Result<()> {
+        fs::rename(rt, self.beside.as_str(), self.target.as_str())
+    }
+
+    /// Removes it before it has its name.
+    pub(crate) fn remove(&self, rt: &HostRuntime) {
+        let _ = fs::remove_file(rt, self.beside.as_str());
+    }
+
+    /// Removes it once it has its name.
+    pub(crate) fn take_name(&self, rt: &HostRuntime) {
+        let _ = fs::remove_file(rt, self.target.as_str());
     }
 }
 

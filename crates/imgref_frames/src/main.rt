@@ -11,24 +11,27 @@ mod request;
 
 pub use devices::Counted;
 use devices::Retried;
-use files::{Sink, Source, create_beside, give_name, read_whole, target_of};
+use files::{NewFile, Sink, Source, id_of, read_whole, standard_id};
 use frame_edits::{BoxStyle, Edits};
 pub use frame_edits::{Edit, Framing, Paint};
 pub use frame_heads::{Format, Picture, Rate};
 pub use frame_lists::Range;
 use frame_messages::{
-    Noted, Texts, say_bare, say_boxes, say_late, say_no_head, say_no_words, say_odd_boxes,
-    say_other_count, say_reason, write_report,
+    Ending, Noted, Texts, ending_of, order_status, say_boxes, say_no_head, say_no_words,
+    say_odd_boxes, say_reason, say_shared, write_report,
 };
 pub use frame_messages::{RunFault, is_wanted};
-use frame_requests::{Options, Refusal, edits_asked, has_blur, read_options, words_of};
+use frame_requests::{
+    FileId, Files, Options, Refusal, edits_asked, has_blur, read_options, reads_input_twice,
+    shared_file, words_of,
+};
 pub use frame_requests::{Seen, Shape, Stretch};
 pub use image_planes::{Axes, Change, Scratch, Window};
 pub use program::run;
 use std::fs::File;
+use std::io;
 use std::io::{BufReader, BufWriter, ErrorKind, Write};
 use std::process::ExitCode;
-use std::{fs, io};
 
 // What the words are, as docs/FRAMES.md has it.
 const USAGE: &str = "usage: imgref_frames [OPTION..] EDIT.. < video > video
@@ -68,8 +71,8 @@ OPTION:
        --with WORD V     in the place of a cover for each box: fill V, fill R,G,B, mosaic TW,TH,
                          means TW,TH or blur R; of these only fill hides it
        --require-box     a frame without a box is a fault, known at the end
-       --report FILE     writes frame,left,top,width,height of each box and each cover as it
-                         was drawn, with frames from 1
+       --report FILE     writes frame,left,top,width,height of each box and each cover, where
+                         the output has it, with frames from 1
        --frames N        another number of frames is a fault, known at the end; a list may
                          say it itself, by a line # frames N
        --strict          what else is a note is a fault: a range that the input doesn't reach,
@@ -81,22 +84,7 @@ Cover first: a move, a mosaic, means or a blur before a cover may show what it c
 See docs/FRAMES.md.";
 
 // The version of the program and of the library.
-const VERSION: &str = "imgref_frames 0.3.1";
-
-// The status where a range was not reached, and that is a fault.
-const RANGE: u8 = 8;
-
-// The status where a cover covers nothing, and that is a fault.
-const COVER: u8 = 9;
-
-// The status where a cover comes after an edit that may show what it covers, and that is a fault.
-const ORDER: u8 = 10;
-
-// The status where the input has another number of frames than was asked for.
-const COUNT: u8 = 11;
-
-// The status where a frame has no box, and that is a fault.
-const BOX: u8 = 12;
+const VERSION: &str = "imgref_frames 0.4.0";
 
 // No files of edits.
 const NO_TEXTS: Texts<'static> = Texts {
@@ -135,6 +123,25 @@ fn say_cause(rt: &HostRuntime, fault: RunFault, name: Option<&str>, cause: Optio
     };
 }
 
+// The new files of a run, which get their names at its end.
+#[derive(Drop)]
+struct Made {
+    output: Option<NewFile>,
+    report: Option<NewFile>,
+}
+
+impl Made {
+    // Removes the files that have no name yet.
+    fn remove(&self, rt: &HostRuntime) {
+        if let Some(output) = &self.output {
+            output.remove(rt);
+        }
+        if let Some(report) = &self.report {
+            report.remove(rt);
+        }
+    }
+}
+
 impl Call<'_> {
     // The name of the input or of the output that a fault is about, where it has one.
     fn name_of(&self, fault: RunFault) -> Option<&str> {
@@ -145,15 +152,13 @@ impl Call<'_> {
     }
 
     // Prints the fault of a device and its cause.
-    fn fail_device(&self, fault: RunFault, cause: Option<&io::Error>) -> u8 {
+    fn say_device(&self, fault: RunFault, cause: Option<&io::Error>) {
         let _ = eprintln!(self.rt; "{fault}");
         say_cause(self.rt, fault, self.name_of(fault), cause);
-        fault.status()
     }
 
-    // Prints the fault and why it came. The status tells of the fault even where nothing can be
-    // printed.
-    fn fail(&self, fault: RunFault, seen: &Seen) -> u8 {
+    // Prints the fault and why it came.
+    fn say_fault(&self, fault: RunFault, seen: &Seen) {
         let _ = eprintln!(self.rt; "{fault}");
         say_reason(
             self.rt,
@@ -163,27 +168,37 @@ impl Call<'_> {
             self.edits,
             self.texts,
         );
-        fault.status()
     }
 
-    // The fault of a file that can't be opened, or of memory for it.
+    // Prints the fault of the report and its cause.
+    fn say_report(&self, error: &io::Error) {
+        let name = name_at(self.words, self.options.report).unwrap_or("");
+        let _ = eprintln!(self.rt; "{}", RunFault::Output);
+        let _ = eprintln!(self.rt; "the report {name} can't be written: {error}");
+    }
+
+    // The fault of a file that can't be opened, or of memory for it. The status tells of the fault
+    // even where nothing can be printed.
     fn fail_at(&self, error: io::Error, fault: RunFault) -> u8 {
         if error.kind() == ErrorKind::OutOfMemory {
-            self.fail(RunFault::Memory(0), &Seen::nothing(self.rt.alloc()))
+            let fault = RunFault::Memory(0);
+            self.say_fault(fault, &Seen::nothing(self.rt.alloc()));
+            fault.status()
         } else {
-            self.fail_device(fault, Some(&error))
+            self.say_device(fault, Some(&error));
+            fault.status()
         }
     }
 
-    // Runs the edits over the input, and returns the status.
-    fn pass(&self, input: BufReader<Source>, output: Sink) -> u8 {
-        let mut seen = match self.options.report {
+    // Runs the edits over the input, and returns what the run ends as.
+    fn pass(&self, input: BufReader<Source>, output: Sink, report: Option<File>) -> Ending {
+        let mut seen = match report {
             Some(_) => Seen::for_report(self.rt.alloc()),
             None => Seen::nothing(self.rt.alloc()),
         };
         let mut reader = Counted::new(input);
         let mut writer = Counted::new(Retried::new(output));
-        let result = run(
+        let outcome = run(
             self.rt.alloc(),
             self.options.limit,
             &self.edits.steps,
@@ -193,46 +208,31 @@ impl Call<'_> {
             &mut writer,
         );
         let (source, sink) = (reader.device().get_ref(), writer.device().device());
-        match result {
-            Ok(count) => match sink.sync() {
-                Ok(()) => self.end_whole(&seen, count),
-                Err(error) => self.fail_device(RunFault::Output, Some(&error)),
-            },
-            Err(RunFault::Input) => {
-                let status = self.fail_device(RunFault::Input, source.failure());
-                self.note_covers(&seen, seen.last().saturating_add(1));
-                status
-            }
-            Err(RunFault::Output) => {
-                let status = self.fail_device(RunFault::Output, sink.failure());
-                self.note_covers(&seen, seen.last().saturating_add(1));
-                status
-            }
-            Err(fault) => self.end_early(fault, &seen, source.front()),
+        let is_kept = match outcome {
+            Ok(count) => self.keep(sink, &seen, count, report),
+            Err(_) => true,
+        };
+        if let Err(fault) = outcome {
+            self.tell(fault, &seen, source, sink);
         }
+        ending_of(self.noted(), self.options, &seen, outcome, is_kept)
     }
 
-    // Writes the report, and prints what there is to say of the edits. Returns the status.
-    fn end_whole(&self, seen: &Seen, count: u64) -> u8 {
-        if let Some(name) = name_at(self.words, self.options.report) {
-            if let Err(error) = self.report(seen, count, name) {
-                let _ = eprintln!(self.rt; "{}", RunFault::Output);
-                let _ = eprintln!(self.rt; "the report {name} can't be written: {error}");
-                return RunFault::Output.status();
-            }
+    // Waits until the output is on its disk, and writes the report of so many frames. Where that
+    // fails, it prints why.
+    fn keep(&self, sink: &Sink, seen: &Seen, count: u64, report: Option<File>) -> bool {
+        if let Err(error) = sink.sync() {
+            self.say_device(RunFault::Output, Some(&error));
+            return false;
         }
-        self.note(seen, count)
-    }
-
-    // Writes the report of so many frames into the file of this name, once it is whole.
-    fn report(&self, seen: &Seen, count: u64, name: &str) -> io::Result<()> {
-        let target = target_of(self.rt, name)?;
-        let (file, beside) = create_beside(self.rt, target.as_str())?;
+        let Some(file) = report else {
+            return true;
+        };
         match self.write_report(seen, count, file) {
-            Ok(()) => give_name(self.rt, beside.as_str(), target.as_str()),
+            Ok(()) => true,
             Err(error) => {
-                let _ = fs::remove_file(self.rt, beside.as_str());
-                Err(error)
+                self.say_report(&error);
+                false
             }
         }
     }
@@ -240,24 +240,37 @@ impl Call<'_> {
     fn write_report(&self, seen: &Seen, count: u64, file: File) -> io::Result<()> {
         let alloc = self.rt.alloc();
         let mut writer = BufWriter::new(alloc, file)?;
-        write_report(alloc, seen, count, &self.edits.steps, &mut writer)?;
-        writer.flush()
+        write_report(alloc, seen, count, self.edits, &mut writer)?;
+        writer.flush()?;
+        writer.get_ref().sync_all()
     }
 
-    // Prints a fault of what the input has, and what is known of its edits. Returns the status.
-    fn end_early(&self, fault: RunFault, seen: &Seen, front: &[u8]) -> u8 {
-        let status = self.fail(fault, seen);
+    // Prints the fault of a run, and what is known of its edits.
+    fn tell(&self, fault: RunFault, seen: &Seen, source: &Source, sink: &Sink) {
+        match fault {
+            RunFault::Input => {
+                self.say_device(fault, source.failure());
+                self.note_covers(seen, seen.last().saturating_add(1));
+            }
+            RunFault::Output => {
+                self.say_device(fault, sink.failure());
+                self.note_covers(seen, seen.last().saturating_add(1));
+            }
+            _ => self.tell_early(fault, seen, source.front()),
+        }
+    }
+
+    // Prints a fault of what the input has, and what is known of its edits.
+    fn tell_early(&self, fault: RunFault, seen: &Seen, front: &[u8]) {
+        self.say_fault(fault, seen);
         match fault {
             RunFault::Header => say_no_head(self.rt, front),
             RunFault::Frame(count) => {
                 self.note_covers(seen, count);
                 self.note_ranges(seen, count);
             }
-            _ => {
-                self.note_covers(seen, seen.last());
-            }
+            _ => self.note_covers(seen, seen.last()),
         }
-        status
     }
 
     // The edits, for notes about them.
@@ -270,72 +283,105 @@ impl Call<'_> {
         }
     }
 
-    // Prints which covers cover nothing in so many frames, and returns whether that is a fault.
-    fn note_covers(&self, seen: &Seen, count: u64) -> bool {
-        self.noted().say_uncovered(seen, count) && self.options.strict
+    // Prints which covers cover nothing in so many frames.
+    fn note_covers(&self, seen: &Seen, count: u64) {
+        let _ = self.noted().say_uncovered(seen, count);
     }
 
-    // Prints which ranges so many frames don't reach, and returns whether that is a fault.
-    fn note_ranges(&self, seen: &Seen, count: u64) -> bool {
-        self.noted().say_unreached(count, seen.rate()) && self.options.strict
+    // Prints which ranges so many frames don't reach.
+    fn note_ranges(&self, seen: &Seen, count: u64) {
+        let _ = self.noted().say_unreached(count, seen.rate());
     }
 
-    // Prints which edits did nothing in so many frames, and whether another number of frames was
-    // asked for. Returns the status of the first fault.
-    fn note(&self, seen: &Seen, count: u64) -> u8 {
-        let counts = say_other_count(self.rt, count, self.options.frames, self.texts);
-        let covers = self.note_covers(seen, count);
-        let ranges = self.note_ranges(seen, count);
-        let bare = self.texts.boxes.is_some()
-            && say_bare(self.rt, &self.edits.steps, count, self.options.require_box)
-            && self.options.require_box;
-        if counts {
-            COUNT
-        } else if bare {
-            BOX
-        } else if covers {
-            COVER
-        } else if ranges {
-            RANGE
-        } else {
-            0
+    // The new file of the output, where it has a name, or standard output.
+    fn create_output(&self) -> io::Result<(Sink, Option<NewFile>)> {
+        match name_at(self.words, self.options.output) {
+            Some(name) => {
+                let (file, made) = NewFile::create(self.rt, name)?;
+                Ok((Sink::named(file), Some(made)))
+            }
+            None => Ok((Sink::standard(self.rt), None)),
         }
     }
 
-    // The same with an output of this name. On a fault the name stays as it was.
-    fn pass_to(&self, input: BufReader<Source>, name: &str) -> u8 {
-        let target = match target_of(self.rt, name) {
-            Ok(target) => target,
-            Err(error) => return self.fail_at(error, RunFault::Output),
+    // The new file of the report, where one is asked for. Its name may not be the one that the output
+    // has until it is whole.
+    fn create_report(
+        &self,
+        output: Option<&NewFile>,
+    ) -> io::Result<(Option<File>, Option<NewFile>)> {
+        let Some(name) = name_at(self.words, self.options.report) else {
+            return Ok((None, None));
         };
-        let (file, beside) = match create_beside(self.rt, target.as_str()) {
+        if let Some(output) = output {
+            output.check_apart(self.rt, name)?;
+        }
+        let (file, made) = NewFile::create(self.rt, name)?;
+        Ok((Some(file), Some(made)))
+    }
+
+    // Gives the new files their names, the report before the output. Returns the status: where a name
+    // can't be given, no new file has one.
+    fn give_names(&self, made: &Made) -> u8 {
+        if let Some(report) = &made.report {
+            if let Err(error) = report.give_name(self.rt) {
+                made.remove(self.rt);
+                self.say_report(&error);
+                return RunFault::Output.status();
+            }
+        }
+        if let Some(output) = &made.output {
+            if let Err(error) = output.give_name(self.rt) {
+                output.remove(self.rt);
+                if let Some(report) = &made.report {
+                    report.take_name(self.rt);
+                }
+                self.say_device(RunFault::Output, Some(&error));
+                return RunFault::Output.status();
+            }
+        }
+        0
+    }
+
+    // The same with new files for the output and the report. Only a run that ends well gives them
+    // their names.
+    fn pass_to(&self, input: BufReader<Source>) -> u8 {
+        let (sink, output) = match self.create_output() {
             Ok(made) => made,
             Err(error) => return self.fail_at(error, RunFault::Output),
         };
-        let status = self.pass(input, Sink::named(file));
-        if status != 0 {
-            let _ = fs::remove_file(self.rt, beside.as_str());
-            return status;
+        let (file, report) = match self.create_report(output.as_ref()) {
+            Ok(made) => made,
+            Err(error) => {
+                if let Some(output) = &output {
+                    output.remove(self.rt);
+                }
+                self.say_report(&error);
+                return RunFault::Output.status();
+            }
+        };
+        let made = Made { output, report };
+        let ending = self.pass(input, sink, file);
+        if ending.is_named {
+            return self.give_names(&made);
         }
-        match give_name(self.rt, beside.as_str(), target.as_str()) {
-            Ok(()) => 0,
-            Err(error) => self.fail_device(RunFault::Output, Some(&error)),
-        }
+        made.remove(self.rt);
+        ending.status
     }
 
-    // The same with the input and the output that the options name.
+    // The same with the input that the options name.
     fn run(&self) -> u8 {
         let source = match Source::open(self.rt, name_at(self.words, self.options.input)) {
             Ok(source) => source,
             Err(error) => return self.fail_at(error, RunFault::Input),
         };
-        let input = match BufReader::with_capacity(self.rt.alloc(), AHEAD, source) {
-            Ok(input) => input,
-            Err(_) => return self.fail(RunFault::Memory(0), &Seen::nothing(self.rt.alloc())),
-        };
-        match name_at(self.words, self.options.output) {
-            Some(name) => self.pass_to(input, name),
-            None => self.pass(input, Sink::standard(self.rt)),
+        match BufReader::with_capacity(self.rt.alloc(), AHEAD, source) {
+            Ok(input) => self.pass_to(input),
+            Err(_) => {
+                let fault = RunFault::Memory(0);
+                self.say_fault(fault, &Seen::nothing(self.rt.alloc()));
+                fault.status()
+            }
         }
     }
 }
@@ -391,11 +437,42 @@ fn text_at(rt: &HostRuntime, words: &[String], at: Option<usize>) -> io::Result<
     }
 }
 
-// Whether standard input would be read for two of the edits, the boxes and the input.
-fn reads_input_twice(options: Options, words: &[String]) -> bool {
-    let edits = name_at(words, options.edits) == Some("-");
-    let boxes = name_at(words, options.boxes) == Some("-");
-    (edits && boxes) || ((edits || boxes) && options.input.is_none())
+// The file of the word at this place, or that of standard input where the word is `-`.
+fn list_id<'a>(rt: &HostRuntime, words: &'a [String], at: Option<usize>) -> Option<FileId<'a>> {
+    let name = name_at(words, at)?;
+    if name == "-" {
+        standard_id(rt, false)
+    } else {
+        id_of(rt, name)
+    }
+}
+
+// The file of the word at this place, or that of a standard stream where there is no word.
+fn stream_id<'a>(
+    rt: &HostRuntime,
+    words: &'a [String],
+    at: Option<usize>,
+    writes: bool,
+) -> Option<FileId<'a>> {
+    match name_at(words, at) {
+        Some(name) => id_of(rt, name),
+        None => standard_id(rt, writes),
+    }
+}
+
+// The files that a run reads and writes.
+fn files_of<'a>(rt: &HostRuntime, options: Options, words: &'a [String]) -> Files<'a> {
+    Files {
+        input: stream_id(rt, words, options.input, false),
+        edits: list_id(rt, words, options.edits),
+        boxes: list_id(rt, words, options.boxes),
+        output: stream_id(rt, words, options.output, true),
+        report: match name_at(words, options.report) {
+            Some(name) => id_of(rt, name),
+            None => None,
+        },
+        is_renamed: options.output.is_some(),
+    }
 }
 
 // What becomes of each box of a list.
@@ -417,15 +494,13 @@ fn edit(rt: &HostRuntime, options: Options, words: &[String], bytes: &[&[u8]]) -
         let _ = eprintln!(rt; "{name} is for the boxes of a list, so it needs --boxes");
         return say_help(rt);
     }
-    if options.report.is_some()
-        && name_at(words, options.report) == name_at(words, options.output)
-    {
-        let _ = eprintln!(rt; "fault words");
-        let _ = eprintln!(rt; "the report and the output need two names");
-        return say_help(rt);
-    }
-    if reads_input_twice(options, words) {
+    if reads_input_twice(options, bytes) {
         return refuse(rt, Refusal::OneInput, bytes, NO_TEXTS);
+    }
+    if let Some((one, other)) = shared_file(&files_of(rt, options, words)) {
+        let _ = eprintln!(rt; "fault words");
+        say_shared(rt, one, other);
+        return say_help(rt);
     }
     let boxes = match text_at(rt, words, options.boxes) {
         Ok(text) => text,
@@ -464,8 +539,19 @@ fn carry(
     edits: &Edits,
     texts: Texts<'_>,
 ) -> ExitCode {
-    if say_late(rt, &edits.steps, options.strict) && options.strict {
-        return ExitCode::from(ORDER);
+    let call = Call {
+        rt,
+        options,
+        edits,
+        texts,
+        words,
+    };
+    let late = match call.noted().say_late() {
+        Ok(late) => late,
+        Err(_) => return end(rt, RunFault::Memory(0)),
+    };
+    if let Some(status) = order_status(options.strict, late) {
+        return ExitCode::from(status);
     }
     if let Some(change) = options.with {
         say_boxes(rt, change);
@@ -476,13 +562,6 @@ fn carry(
     if has_blur(&edits.steps) {
         let _ = eprintln!(rt; "note: a blur hides nothing: cover what has to stay secret first");
     }
-    let call = Call {
-        rt,
-        options,
-        edits,
-        texts,
-        words,
-    };
     ExitCode::from(call.run())
 }
 

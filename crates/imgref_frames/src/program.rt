@@ -6,7 +6,7 @@ ghost use Rattle.imgref_frames.specs.Fault.{CanCount, Counts, reader_failures, w
 ghost use Rattle.frame_edits.specs.Edits.{edits};
 ghost use Rattle.frame_formats.specs.Planned.{recipe_of, plan_room, plan_other_room};
 ghost use Rattle.image_planes.specs.Scratch.{HasRoom, room_len};
-ghost use Rattle.imgref_frames.specs.Alike.{Hides, OneOutput};
+ghost use Rattle.imgref_frames.specs.Alike.{Hides, HidesCovered, OneOutput, OneOutputCovered};
 ghost use Rattle.imgref_frames.specs.Kept.{Stops, VideoStopsAfter};
 ghost use Rattle.imgref_frames.specs.Request.{edits_of};
 ghost use Rattle.imgref_frames.specs.Seen.{RunSees, VideoSeesAfter};
@@ -196,6 +196,14 @@ pub fn run<R: Read, W: Write>(
     // Two such inputs get one result and one output. Where memory, the reader or the writer fails,
     // one output is the beginning of the other.
     ensures one_output { OneOutput }
+
+    // Where no mosaic, means, blur or move comes before a cover or a fill that may be for the same
+    // frame, whatever comes between them, the same holds of inputs that differ in anything
+    // that a cover or a fill covers. `late_pairs` of `frame_requests` finds what comes so.
+    ensures covers { HidesCovered result (edits steps.now framing)
+        (R.remaining (device_of reader.old))
+        (W.contents (device_of writer.old)) (W.contents (device_of writer.new)) }
+    ensures one_covered { OneOutputCovered }
 {
     recipes_hide();
     heads_end_themselves();

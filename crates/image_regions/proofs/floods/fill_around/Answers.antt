@@ -1,9 +1,16 @@
 -- The four places beside one are looked at.
-use Rattle.std.proofs.Common.{◌/◌, ◌%◌, ◌++◌, sym, subst, arith}
-use Rattle.imgref.specs.Words.{Flooding, beside}
+use Rattle.std.proofs.Common.{◌/◌, ◌%◌, ◌<◌, ◌++◌, sym, subst, arith}
+use Rattle.imgref.specs.Words.{Flooding, beside, shape_height, shape_width}
 use Rattle.image_regions.specs.Pending.{cell_grid, to_look_at}
-use Rattle.image_regions.proofs.Pending.{four_looked}
+use Rattle.image_regions.proofs.Pending.{four_looked, row_within}
 use Rattle.image_regions.proofs.floods.fill_around.Goals as goal
+
+-- (a number in the room is that of a place)
+pub returns-then-y-height-clause-goes_on : goal.returns-then-y-height-clause-goes_on
+returns-then-y-height-clause-goes_on g c h left top seeded f =
+    let s = c.args.fill.now in
+    let row : c.args.number / shape_width s.shape < shape_height s.shape = row_within (shape_width s.shape) (shape_height s.shape) c.args.number c.requires.inside in
+    absurd (omega (arith, c.if-y-height.true, subst (λ w. c.args.number / w < shape_height s.shape) (sym c.width-width.ensures.value) row))
 
 pub returns-clause-goes_on : goal.returns-clause-goes_on
 returns-clause-goes_on g c h left top seeded f =

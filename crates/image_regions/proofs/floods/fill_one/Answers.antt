@@ -23,12 +23,23 @@ returns-then-ne-clause-goes_on g c h left top rest seeded f =
     let same : Some c.in-Some.pixel ≡ Some s.seed = sym c.in-Some.is ∙ c.get.ensures.pixel ∙ e in true≢false (sym ((c.requires.ready.tells c.in-Some.pixel s.seed).1 (cc same)) ∙ fails) in
     flood_skips h left top s.seed s.value seeded c.requires.ready.other (cell_grid s a.cells.now) (to_look_at s a.count a.room.now ++ rest) a.place.0 a.place.1 miss f
 
-pub bounds-room-count : goal.bounds-room-count
-bounds-room-count g c =
+-- (a place that shows the seed leaves room for its number)
+pub returns-then-count-room-clause-goes_on : goal.returns-then-count-room-clause-goes_on
+returns-then-count-room-clause-goes_on g c h left top rest seeded f =
     let a = c.args in
     let s = a.fill.now in
     let same : g.T.PartialEq.eq c.in-Some.pixel s.seed ≡ true = grind (arith, c.ne.ensures, c.if-ne.false) in
-    omega (arith, c.requires.ready.enough, one_filled s g.T.PartialEq.eq c.requires.ready.tells c.requires.ready.other a.cells.now a.place.0 a.place.1 c.in-Some.pixel (sym c.get.ensures.pixel ∙ c.in-Some.is) same)
+    absurd (omega (arith, c.if-count-room.true, c.requires.ready.enough, one_filled s g.T.PartialEq.eq c.requires.ready.tells c.requires.ready.other a.cells.now a.place.0 a.place.1 c.in-Some.pixel (sym c.get.ensures.pixel ∙ c.in-Some.is) same))
+
+pub returns-then-count-room-clause-fills : goal.returns-then-count-room-clause-fills
+returns-then-count-room-clause-fills g c =
+    let a = c.args in
+    let s = a.fill.now in
+    let same : g.T.PartialEq.eq c.in-Some.pixel s.seed ≡ true = grind (arith, c.ne.ensures, c.if-ne.false) in
+    absurd (omega (arith, c.if-count-room.true, c.requires.ready.enough, one_filled s g.T.PartialEq.eq c.requires.ready.tells c.requires.ready.other a.cells.now a.place.0 a.place.1 c.in-Some.pixel (sym c.get.ensures.pixel ∙ c.in-Some.is) same))
+
+pub bounds-room-count : goal.bounds-room-count
+bounds-room-count g c = omega (arith, c.if-count-room.false)
 
 pub returns-clause-goes_on : goal.returns-clause-goes_on
 returns-clause-goes_on g c h left top rest seeded f =

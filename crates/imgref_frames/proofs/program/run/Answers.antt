@@ -7,6 +7,7 @@ use Rattle.frame_edits.specs.Edits.{edits}
 use Rattle.imgref_frames.specs.Program.{Writes}
 use Rattle.frame_messages.specs.declared.fault.RunFault.TheVariants.{Header}
 use Rattle.imgref_frames.proofs.Carrying.{behind_first}
+use Rattle.imgref_frames.proofs.Covered.{hides_covered, one_output_covered}
 use Rattle.imgref_frames.proofs.Hiding.{Laws, hides}
 use Rattle.imgref_frames.proofs.OneOutput.{one_output}
 use Rattle.imgref_frames.proofs.Rounds.{behind_letter_stops}
@@ -15,7 +16,7 @@ use Rattle.imgref_frames.proofs.program.run.Goals as goal
 use Rattle.imgref_frames.proofs.program.run.Goals.{After-heads_end_themselves, After-pass_pictures}
 
 laws : (g : _) (c : After-heads_end_themselves g) → Laws
-laws g c = record { videos = c.recipes_hide.ensures.videos; pictures = c.recipes_hide.ensures.pictures; apart = c.heads_end_themselves.ensures.apart; letter = c.heads_end_themselves.ensures.begins }
+laws g c = record { videos = c.recipes_hide.ensures.videos; pictures = c.recipes_hide.ensures.pictures; videos_filled = c.recipes_hide.ensures.videos_filled; pictures_filled = c.recipes_hide.ensures.pictures_filled; apart = c.heads_end_themselves.ensures.apart; letter = c.heads_end_themselves.ensures.begins }
 
 pictures_written : (g : _) (c : After-pass_pictures g) → Writes c.pass_pictures.result (edits c.args.steps.now c.args.framing) (g.R.Read.remaining (device_of c.args.reader.now)) (g.W.Write.contents (device_of c.args.writer.now)) (g.W.Write.contents (device_of c.pass_pictures.new.writer))
 pictures_written g c = behind_first (edits c.args.steps.now c.args.framing) c.pass_pictures.result (g.R.Read.remaining (device_of c.args.reader.now)) (g.R.Read.remaining (device_of c.read_byte.new.reader)) (g.R.Read.remaining (device_of c.pass_pictures.new.reader))
@@ -65,3 +66,28 @@ returns-in-Ok-None-clause-seen g c sees = inl sees
 
 pub returns-in-Err-clause-seen : goal.returns-in-Err-clause-seen
 returns-in-Err-clause-seen g c sees = inl (inl sees)
+
+-- ---- what covers and fills cover, where they come first
+
+pub returns-in-Ok-Some-eq80-clause-covers : goal.returns-in-Ok-Some-eq80-clause-covers
+returns-in-Ok-Some-eq80-clause-covers g c = hides_covered (laws g (goal.at.returns-in-Ok-Some-eq80-clause-covers g c).After-heads_end_themselves) _ _ _ _ _ (pictures_written g (goal.at.returns-in-Ok-Some-eq80-clause-covers g c).After-pass_pictures)
+
+pub returns-in-Ok-Some-eq80-clause-one_covered : goal.returns-in-Ok-Some-eq80-clause-one_covered
+returns-in-Ok-Some-eq80-clause-one_covered g c = one_output_covered (laws g (goal.at.returns-in-Ok-Some-eq80-clause-one_covered g c).After-heads_end_themselves)
+
+pub returns-in-Ok-Some-clause-covers : goal.returns-in-Ok-Some-clause-covers
+returns-in-Ok-Some-clause-covers g c =
+    hides_covered (laws g (goal.at.returns-in-Ok-Some-clause-covers g c).After-heads_end_themselves) c.carry_video.result (edits c.args.steps.now c.args.framing) (g.R.Read.remaining (device_of c.args.reader.now)) (g.W.Write.contents (device_of c.args.writer.now)) (g.W.Write.contents (device_of c.carry_video.new.writer)) (search rules)
+
+pub returns-in-Ok-Some-clause-one_covered : goal.returns-in-Ok-Some-clause-one_covered
+returns-in-Ok-Some-clause-one_covered g c = one_output_covered (laws g (goal.at.returns-in-Ok-Some-clause-one_covered g c).After-heads_end_themselves)
+
+pub returns-in-Ok-None-clause-covers : goal.returns-in-Ok-None-clause-covers
+returns-in-Ok-None-clause-covers g c =
+    hides_covered (laws g (goal.at.returns-in-Ok-None-clause-covers g c).After-heads_end_themselves) (Err Header) (edits c.args.steps.now c.args.framing) (g.R.Read.remaining (device_of c.args.reader.now)) (g.W.Write.contents (device_of c.args.writer.now)) (g.W.Write.contents (device_of c.args.writer.now)) (grind (arith, common_steps))
+
+pub returns-in-Ok-None-clause-one_covered : goal.returns-in-Ok-None-clause-one_covered
+returns-in-Ok-None-clause-one_covered g c = one_output_covered (laws g (goal.at.returns-in-Ok-None-clause-one_covered g c).After-heads_end_themselves)
+
+pub returns-in-Err-clause-one_covered : goal.returns-in-Err-clause-one_covered
+returns-in-Err-clause-one_covered g c = one_output_covered (laws g (goal.at.returns-in-Err-clause-one_covered g c).After-heads_end_themselves)

@@ -1,0 +1,58 @@
+#!/usr/bin/env python3
+"""Shows which planted bugs a change affects: .ci/changed.py, beside an old tree that differs in one place.
+
+A change of a body affects the bugs of that function alone, one of a contract those of its callers too, one of a definition those of each
+function that cites it, in other crates too. What only moved and a comment affect none.
+"""
+import pathlib
+import sys
+
+sys.path.insert(0, str(pathlib.Path(__file__).resolve().parent.parent))
+from checking import ROOT, Cases, crates
+
+from changed import Changes
+from planted_bugs import all_bugs
+
+COUNTING = "crates/image_ops/src/counting.rt"
+CONTRACT = "    requires { F.IsAlwaysCallable f.now }\n    ensures { IsCount (F.post f.now) row.now result }\n{\n    "
+# What differs in the old tree: a file, its text and what was in its place. Then the functions whose bugs are affected, and the crates
+# that may have no other (None: none has another).
+CASES = [
+    ("a body", COUNTING, "SMALL && row.len() >= WIDE", "SMALL && row.len() > WIDE", {"image_ops/count_in_row"}, None),
+    ("a contract", COUNTING, f"{CONTRACT}let mut count = 0;\n    let mut rest", f"{CONTRACT.replace('row.now', 'row')}let mut count = 0;\n    let mut rest", {"image_ops/count_by_blocks", "image_ops/count_in_row"}, None),
+    ("a constant", COUNTING, "const BLOCK: usize = 224;", "const BLOCK: usize = 208;", {"image_ops/count_by_blocks"}, None),
+    ("a comment", COUNTING, "// The number in a row, block by block.", "// Another comment.", set(), None),
+    ("a definition", "crates/image_ops/specs/Counting.antt", "count ≡ count_by test values", "count ≡ count_by test (values)", {"image_ops/count_by_blocks", "image_ops/count_in_row", "image_ops/count_pixels", "imgref/count_where"}, {"row_mover", "image_flips", "image_turns", "texts", "devices"}),
+]
+
+
+def now():
+    """The texts of the crates as they are, by their paths."""
+    files = [it for end in ("rt", "antt", "edit") for it in (ROOT / "crates").rglob(f"*.{end}") if "out" not in it.parts]
+    return {it.relative_to(ROOT).as_posix(): it.read_text(encoding="utf-8") for it in files}
+
+
+def functions_affected(bugs, old):
+    """The functions of the bugs that this old tree makes affected, each by its crate and name."""
+    changes = Changes(old)
+    return {f"{name}/{function.name}" for name, found in bugs.items() for bug in found if changes.affects(bug) for _, function in bug.functions}
+
+
+def main():
+    cases, texts = Cases(), now()
+    bugs, bad = all_bugs([*crates()], [])
+    cases.count("each planted bug can be planted", bugs and not bad, "\n".join(bad))
+    found = functions_affected(bugs, texts)
+    cases.count("the same tree affects none", not found, f"{found}")
+    found = functions_affected(bugs, {path.replace("/counting", "/moved").replace("crates/imgref/", "crates/another/"): text for path, text in texts.items()})
+    cases.count("files that only moved affect none", not found, f"{found}")
+    for what, path, text, before, wanted, spared in CASES:
+        cases.count(f"{what}: its text is there once", texts[path].count(text) == 1, path)
+        found = functions_affected(bugs, {**texts, path: texts[path].replace(text, before)})
+        more = {it for it in found - wanted if spared is None or it.split("/")[0] in spared}
+        cases.count(f"{what}: affects {', '.join(sorted(wanted)) or 'none'}{' and who else cites it' if spared else ''}", wanted <= found and not more, f"affected: {sorted(found)}")
+    return cases.end()
+
+
+if __name__ == "__main__":
+    sys.exit(main())
