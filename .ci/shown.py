@@ -39,6 +39,7 @@ CARGO = '[package]\nname = "shown"\nversion = "0.0.0"\nedition = "2021"\n[depend
 TOOLS = ("ffmpeg", "pngtopnm", "pnmtopng", "pnmdepth", "parallel")
 # The blocks that aren't run here as they are: a page, how they begin, and what tries them, or why nothing does.
 OTHERS = [
+    ("README.md", "apt-get ", "built/release.py, by dpkg -i, and built/hide.py"),
     ("README.md", "make try ", "fresh_machine.py: the picture of `make try`. The gate runs `make test`"),
     ("README.md", "make python ", "proofs/bindings.py"),
     ("README.md", "rt new ", "run_filter"),
