@@ -112,7 +112,7 @@ def language(block):
         return "Python"
     if "imgref_proved::" in block:
         return "Rust"
-    if "imgref.hpp" in block or "imgref::view" in block:
+    if "imgref.hpp" in block or "imgref::" in block:
         return "C++"
     if "#include <imgref.h>" in block:
         return "C"

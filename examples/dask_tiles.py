@@ -21,7 +21,10 @@ import shutil
 import subprocess
 import sys
 
-import numpy
+try:
+    import numpy
+except ImportError as why:
+    sys.exit(f"{why}: apt-get install python3-numpy python3-dask python3-distributed, and start it by /usr/bin/python3")
 
 BUILT = pathlib.Path(__file__).resolve().parent.parent / "crates/imgref_frames/out/imgref_frames"
 EDITS = ("mosaic", "means", "blur")
@@ -126,6 +129,8 @@ def main():
     if options.block < 1 or os.path.exists(options.output):
         sys.exit(f"dask_tiles: {options.output} is there already" if options.block > 0 else "dask_tiles: a block has a pixel at least")
     depth_of(options)
+    if not options.scheduler and not shutil.which("imgref_frames") and not BUILT.exists():
+        sys.exit("dask_tiles: imgref_frames isn't in the PATH: install the package imgref-tools, or type make frames")
     source, target = File(options.input), File(f"{options.output}.part")
     try:
         picture = source.opened("r")

@@ -126,6 +126,8 @@ def parsed(words):
         made.error("--columns, --score, --separator and --first-frame are for the list of --detector or --list")
     if options.hold is not None and options.hold < options.every and not (options.detector or options.list or options.again):
         made.error(f"--hold {options.hold} is less than --every {options.every}: between two frames that are looked at a face would show")
+    if options.with_edit and len(options.with_edit.split()) != 2:
+        made.error(f"--with takes one edit of two words, as 'fill 128', and not '{options.with_edit}'")
     if any("\n" in it or "#" in it for it in options.also):
         made.error("--also takes one edit, without # and without line feeds")
     options.given = given(made, options)

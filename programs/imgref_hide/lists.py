@@ -77,7 +77,7 @@ def ready(work, options, size, say):
     (work / "covered.txt").write_text("\n".join([*head, *inside]) + "\n")
     words = ["--boxes", "covered.txt", "--hold", str(options.hold)]
     words += [] if is_share else ["--margin", str(margin)]
-    return len(inside), [*words, *(["--with", options.with_edit] if options.with_edit else [])]
+    return len(inside), [*words, *(["--with", *options.with_edit.split()] if options.with_edit else [])]
 
 
 def reaches(line, size, margin):

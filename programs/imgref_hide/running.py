@@ -1,10 +1,11 @@
 """Runs pipes of commands: the end of one ends all, signals end all, and progress is shown."""
 import contextlib
 import os
-import pathlib
+import re
 import signal
 import subprocess
 import sys
+import tempfile
 import threading
 import time
 
@@ -13,6 +14,8 @@ PATIENCE, LOOK = 3, 0.05
 # How often a line is written where there is no terminal, and how often on a terminal, in seconds.
 EVERY, OFTEN = 10, 0.2
 BACK = "\r\033[K"
+# What a command says that lost its reader.
+BROKEN = re.compile("Broken pipe|BrokenPipeError")
 
 
 class Failure(Exception):
@@ -136,18 +139,17 @@ class Step:
 
 
 def pipe(steps, work, output=None, counter=None, progress=None):
-    """Runs steps in the folder `work`, each of which reads what the one before writes, and waits for all. What each says is in a
-    file of `work`, whose last lines a Failure has. The output of the last one goes into the file `output`, else it is dropped."""
-    started, said, before = [], [work / f"said-{at}" for at in range(len(steps))], subprocess.DEVNULL
+    """Runs steps in the folder `work`, each of which reads what the one before writes, and waits for all. A Failure has the last
+    lines that the cause said. The output of the last one goes into the file `output`, else it is dropped."""
+    # (what they say goes to another disk than the output, which may be full)
+    started, said, before = [], [tempfile.TemporaryFile() for _ in steps], subprocess.DEVNULL
     out = open(work / output, "wb") if output else None
     try:
-        for at, (step, file) in enumerate(zip(steps, said)):
-            is_last = at == len(steps) - 1
-            with open(file, "wb") as errors:
-                process = subprocess.Popen(
-                    step.words, shell=step.shell, stdin=before, stdout=(out or subprocess.DEVNULL) if is_last else subprocess.PIPE, stderr=errors,
-                    cwd=step.folder or work, start_new_session=True, pass_fds=[counter.write] if counter else [],
-                )  # fmt: skip
+        for step, errors in zip(steps, said):
+            process = subprocess.Popen(
+                step.words, shell=step.shell, stdin=before, stdout=(out or subprocess.DEVNULL) if step is steps[-1] else subprocess.PIPE, stderr=errors,
+                cwd=step.folder or work, start_new_session=True, pass_fds=[counter.write] if counter else [],
+            )  # fmt: skip
             started.append(process)
             # (else a command wouldn't notice that the one after it has ended)
             if before is not subprocess.DEVNULL:
@@ -169,12 +171,25 @@ def pipe(steps, work, output=None, counter=None, progress=None):
         end(started)
         if out:
             out.close()
-    # (the last that failed is the cause: those before it then lose their reader)
     wrong = [at for at, it in enumerate(started) if it.returncode]
     if wrong:
-        at = next((it for it in reversed(wrong) if started[it].returncode != -signal.SIGPIPE), wrong[-1])
-        raise Failure(f"{steps[at].name} failed{why_of(said[at], started[at].returncode)}")
-    return [it.read_text(errors="replace") for it in said]
+        raise Failure(cause(steps, started, [text_of(it) for it in said], wrong))
+
+
+def text_of(file):
+    """What is in a file that is open."""
+    with file:
+        file.seek(0)
+        return file.read().decode(errors="replace")
+
+
+def cause(steps, started, said, wrong):
+    """What failed first: a command that lost its reader, or its input, isn't the cause."""
+    lost = [at for at in wrong if started[at].returncode == -signal.SIGPIPE or BROKEN.search(said[at])]
+    at = next((it for it in wrong if it not in lost), None)
+    if at is None:
+        return f"{steps[lost[-1] + 1].name} ended before it had read the whole video"
+    return f"{steps[at].name} failed{why_of(said[at], started[at].returncode)}"
 
 
 def at_fault(started, patient):
@@ -203,9 +218,9 @@ def end(started):
         it.wait()
 
 
-def why_of(file, status):
+def why_of(said, status):
     """The last lines that a command said, or the signal that ended it."""
-    lines = [it.strip() for it in pathlib.Path(file).read_text(errors="replace").splitlines() if it.strip()]
+    lines = [it.strip() for it in said.splitlines() if it.strip() and not it.startswith("imgref_frames --help lists")]
     if lines:
         return ": " + "; ".join(lines[-3:])[-600:]
     if status < 0:

@@ -37,6 +37,11 @@ def chosen(covered, stretches, most):
     return bare, set(shown)
 
 
+def scale_of(review, picture):
+    """By how much a frame is smaller on a sheet."""
+    return min(review.WIDE / picture.width, getattr(review, "HIGH", picture.height * review.WIDE) / picture.height)
+
+
 def marked(picture, made, scale, draw):
     """A frame of a sheet with marks at its edges."""
     pen = draw.Draw(made)
@@ -73,7 +78,7 @@ def main(report, sheet, count, most):
             if frame in bare:
                 first, last = bare[frame]
                 made = review.tile(picture, [], f"{frame}: no box. --also '{first - 1}..{last} cover L,T,W,H'")
-                made = marked(picture, made, review.WIDE / picture.width, ImageDraw)
+                made = marked(picture, made, scale_of(review, picture), ImageDraw)
             else:
                 made = review.tile(picture, covers[frame], f"frame {frame}")
             tiles.append(made)

@@ -124,6 +124,7 @@ def by_words(cases, place):
         (["in.mp4", "out.mp4", "--crf", "99"], 2, "from 0 to 63"),
         (["in.mp4", "out.mp4", "--crf", "60"], 1, "H.264 takes 0 to 51"),
         (["in.mp4", "out.mp4", "--with", "blot 3"], 1, "fault words"),
+        (["in.mp4", "out.mp4", "--with", "fill"], 2, "two words"),
         (["in.mp4", "out.mp4", "--also", "80..20 cover 1,1,2,2"], 1, "fault words"),
         (["in.mp4", "out.mp4", "--also", "fill 150,1,20,2 16"], 1, "fault outside"),
         (["in.mp4", "out.mp4", "--also", "cover 1,1,2"], 1, "fault words"),
@@ -213,7 +214,7 @@ def by_forms(cases, place):
     done = place.run(folder, "in.mp4", "bad.mp4", "--detector", "cat > /dev/null; echo it broke >&2; exit 3", "--sheet", "0", fake=False)
     cases.count("a detector that fails is told, with what it said", done.returncode == 1 and "the detector failed: it broke" in done.stderr, done.stderr)
     done = place.run(folder, "in.mp4", "bad.mp4", "--detector", "head -c 100 > /dev/null; echo 1,1,1,1,1,1,1,-1,-1,-1", "--sheet", "0", fake=False)
-    cases.count("a detector that doesn't read all of it is told", done.returncode == 1 and "ffmpeg failed" in done.stderr and not (folder / "bad.mp4").exists(), done.stderr)
+    cases.count("a detector that doesn't read all of it is told", done.returncode == 1 and "the detector ended before it had read the whole video" in done.stderr and not (folder / "bad.mp4").exists(), done.stderr)
     done = place.run(folder, "in.mp4", "bad.mp4", "--detector", "cat > /dev/null; echo 99,1,1,1,9,9,1,-1,-1,-1", "--sheet", "0", fake=False)
     cases.count("a list that names a frame after the end is refused", done.returncode == 1 and "names frame 99" in done.stderr, done.stderr)
 
@@ -345,7 +346,7 @@ def by_room(cases, place):
         done = place.run(folder, "in.mp4", "small/out.mp4")
         cases.count("too little room is told at once", done.returncode == 1 and "MB free" in done.stderr and "detecting" not in done.stderr, done.stderr)
         ffmpeg(folder, "-i in.mp4 -vf noise=alls=60:allf=t -c:v libx264 -crf 10 -pix_fmt yuv420p noise.mp4")
-        done = place.run(folder, "noise.mp4", "small/out.mp4", "--ignore-room", "--crf", "0", "--detector", "cat > /dev/null; echo 1,1,1,1,9,9,1,-1,-1,-1")
+        done = place.run(folder, "noise.mp4", "small/out.mp4", "--ignore-room", "--crf", "0", "--sheet", "0", "--detector", "cat > /dev/null; echo 1,1,1,1,9,9,1,-1,-1,-1", fake=False)
         cases.count("a disk that gets full leaves nothing", done.returncode == 1 and not left(small) and "space" in done.stderr and "detecting" in done.stderr, f"{done.stderr} {left(small)}")
     finally:
         subprocess.run(["umount", small])

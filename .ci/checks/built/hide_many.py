@@ -124,11 +124,8 @@ class Host:
                     os.kill(int(it.name), signal.SIGKILL)
 
     def is_working(self):
-        return self.folder.joinpath("did").exists() and any(str(self.home) in it for it in children_of(self.home))
-
-
-def children_of(folder):
-    return [f"{folder}" for _ in children(folder)]
+        """Whether a video is being covered there: its folder is beside the output."""
+        return any(self.home.rglob(".imgref-hide-*"))
 
 
 def by_hosts(cases, place):
@@ -158,8 +155,9 @@ def by_hosts(cases, place):
         deadline = time.monotonic() + 90
         while time.monotonic() < deadline and process.poll() is None and not hosts[1].is_working():
             time.sleep(0.05)
-        cases.count("a host is killed while it works", process.poll() is None and hosts[1].is_working(), (folder / "said").read_text())
+        was_working = process.poll() is None and hosts[1].is_working()
         hosts[1].kill()
+        cases.count("a host is killed while it covers a video", was_working, (folder / "said").read_text())
         process.wait(240)
         said = (folder / "said").read_text()
         place.run(folder, "in", "one", "--cores", "1", "--jobs", "3", "--sheet", "0", "--detector", place.detector, fake=False)
@@ -243,10 +241,11 @@ def by_dask(cases, place):
     subprocess.run([python, "-c", head], cwd=folder, check=True)
     status, said, most, _ = run("means", "10,10", "--block", "3000", "--workers", "2", memory=True)
     cases.count(f"Dask, a picture of 900 MB: at most {most // 1_000_000} MB of memory", status == 0 and 0 < most < 700_000_000 and (folder / "out.npy").stat().st_size == (folder / "in.npy").stat().st_size, said[-2000:])
-    status, said, _, _ = run("means", "7,7", "--block", "3000")
-    cases.count("tiles that a block cuts are refused", status == 1 and "whole ones" in said, said)
     status, said, _, _ = run("means", "10,10", "--block", "3000")
     cases.count("an output that is there is refused", status == 1 and "is there already" in said, said)
+    (folder / "out.npy").unlink()
+    status, said, _, _ = run("means", "7,7", "--block", "3000")
+    cases.count("tiles that a block cuts are refused", status == 1 and "whole ones" in said, said)
 
 
 def read(path):

@@ -39,8 +39,8 @@ use Rattle.frame_lists.specs.declared.ranges.Range.TheVariants.{Frames, Times}
 use Rattle.frame_formats.specs.Framings.{resize_for}
 use Rattle.frame_formats.specs.Layers.{change_on, job_on, jobs_on, layer_height, layer_width, opaque_change, picture_layers, picture_pixel, resizings_on, video_layers}
 use Rattle.frame_formats.specs.Recipe.{PicturesHideFilled, Recipe, VideosHideFilled, finished_picture, finished_video, picture_recipe, recipe, resized_picture, video_recipe}
-use Rattle.frame_formats.specs.Sampling.{change_under}
-use Rattle.frame_formats.specs.Steps.{all_some, change_in, step_by, step_in, value_in}
+use Rattle.frame_formats.specs.Sampling.{at_corner, change_under, exact_samples, samples, window_under}
+use Rattle.frame_formats.specs.Steps.{all_some, bytes_of, change_in, no_colour, step_by, step_in, value_in}
 use Rattle.frame_formats.specs.declared.layers.Layer.{Layer}
 use Rattle.frame_formats.specs.declared.layers.Layer.TheVariants.{Pixels, Samples, Alpha}
 
@@ -117,11 +117,11 @@ settled_kind (Boxed margin) s width height (Flip axes) = (refl, refl)
 in_kind : (pixel : Pixel) (c : Change Paint) (d : Change (List ℕ)) → change_in pixel c ≡ Some d → SameKind c d
 unfolding change_in
 in_kind pixel (Fill w paint) d made = let v = mapped (λ value. Fill w value) (value_in pixel paint) d made in same_kind (Fill w paint) (Fill w v.0) d v.2 (refl, refl)
-in_kind pixel (Mosaic w wide high) d made = same_kind (Mosaic w wide high) _ d (some_is _ d made) (refl, refl)
-in_kind pixel (Mean w wide high bytes) d made = same_kind (Mean w wide high bytes) _ d (some_is _ d made) (refl, refl)
-in_kind pixel (Blur w across down bytes) d made = same_kind (Blur w across down bytes) _ d (some_is _ d made) (refl, refl)
-in_kind pixel (Move w left top) d made = same_kind (Move w left top) _ d (some_is _ d made) (refl, refl)
-in_kind pixel (Flip axes) d made = same_kind (Flip axes) _ d (some_is _ d made) (refl, refl)
+in_kind pixel (Mosaic w wide high) d made = let c : Change Paint = Mosaic w wide high in let e : Change (List ℕ) = Mosaic w wide high in same_kind c e d (some_is e d made) (refl, refl)
+in_kind pixel (Mean w wide high bytes) d made = let c : Change Paint = Mean w wide high bytes in let e : Change (List ℕ) = Mean w wide high (bytes_of pixel) in same_kind c e d (some_is e d made) (refl, refl)
+in_kind pixel (Blur w across down bytes) d made = let c : Change Paint = Blur w across down bytes in let e : Change (List ℕ) = Blur w across down (bytes_of pixel) in same_kind c e d (some_is e d made) (refl, refl)
+in_kind pixel (Move w left top) d made = let c : Change Paint = Move w left top in let e : Change (List ℕ) = Move w left top in same_kind c e d (some_is e d made) (refl, refl)
+in_kind pixel (Flip axes) d made = let c : Change Paint = Flip axes in let e : Change (List ℕ) = Flip axes in same_kind c e d (some_is e d made) (refl, refl)
 
 opaque_kind : (pixel : Pixel) (c : Change (List ℕ)) → SameKind c (opaque_change pixel c)
 opaque_kind pixel (Fill w value) = (refl, refl)
@@ -131,25 +131,36 @@ opaque_kind pixel (Blur w across down bytes) = (refl, refl)
 opaque_kind pixel (Move w left top) = (refl, refl)
 opaque_kind pixel (Flip axes) = (refl, refl)
 
+-- the same where it is made of something more
+abbrev MadesKind : Change (List ℕ) → Option (Change (List ℕ)) → Type 0
+MadesKind c o = (d : Change (List ℕ)) → o ≡ Some d → SameKind c d
+
+of_more : {A : Type 0} (c : Change (List ℕ)) (o : Option A) (k : A → Option (Change (List ℕ))) → ((v : A) → MadesKind c (k v)) → MadesKind c (o >>= k)
+of_more c None k each d made = absurd cc
+of_more c (Some v) k each d made = each v d made
+
+at_last : (c e : Change (List ℕ)) → SameKind c e → MadesKind c (Some e)
+at_last c e same d made = same_kind c e d (some_is e d made) same
+
 under_kind : (pixel : Pixel) (x y width height : ℕ) (c d : Change (List ℕ)) → change_under pixel x y width height c ≡ Some d → SameKind c d
 unfolding change_under
-under_kind pixel x y width height (Fill w value) d made = let u = bound _ _ d made in same_kind (Fill w value) _ d (some_is _ d u.2) (refl, refl)
+under_kind pixel x y width height (Fill w value) d made =
+    of_more (Fill w value) (window_under x y width height w) (λ under. Some (Fill under (no_colour pixel))) (λ under. at_last (Fill w value) (Fill under (no_colour pixel)) (refl, refl)) d made
 under_kind pixel x y width height (Mosaic w wide high) d made =
-    let u = bound _ _ d made in
-    let a = bound _ _ d u.2 in
-    let b = bound _ _ d a.2 in
-    same_kind (Mosaic w wide high) _ d (some_is _ d b.2) (refl, refl)
+    of_more (Mosaic w wide high) (window_under x y width height w) (λ under. exact_samples x wide >>= λ a. exact_samples y high >>= λ b. Some (Mosaic under a b))
+    (λ under. of_more (Mosaic w wide high) (exact_samples x wide) (λ a. exact_samples y high >>= λ b. Some (Mosaic under a b))
+    (λ a. of_more (Mosaic w wide high) (exact_samples y high) (λ b. Some (Mosaic under a b)) (λ b. at_last (Mosaic w wide high) (Mosaic under a b) (refl, refl)))) d made
 under_kind pixel x y width height (Mean w wide high bytes) d made =
-    let u = bound _ _ d made in
-    let a = bound _ _ d u.2 in
-    let b = bound _ _ d a.2 in
-    same_kind (Mean w wide high bytes) _ d (some_is _ d b.2) (refl, refl)
-under_kind pixel x y width height (Blur w across down bytes) d made = let u = bound _ _ d made in same_kind (Blur w across down bytes) _ d (some_is _ d u.2) (refl, refl)
+    of_more (Mean w wide high bytes) (window_under x y width height w) (λ under. exact_samples x wide >>= λ a. exact_samples y high >>= λ b. Some (Mean under a b bytes))
+    (λ under. of_more (Mean w wide high bytes) (exact_samples x wide) (λ a. exact_samples y high >>= λ b. Some (Mean under a b bytes))
+    (λ a. of_more (Mean w wide high bytes) (exact_samples y high) (λ b. Some (Mean under a b bytes)) (λ b. at_last (Mean w wide high bytes) (Mean under a b bytes) (refl, refl)))) d made
+under_kind pixel x y width height (Blur w across down bytes) d made =
+    of_more (Blur w across down bytes) (window_under x y width height w) (λ under. Some (Blur under (samples across x) (samples down y) bytes))
+    (λ under. at_last (Blur w across down bytes) (Blur under (samples across x) (samples down y) bytes) (refl, refl)) d made
 under_kind pixel x y width height (Move w left top) d made =
-    let u = bound _ _ d made in
-    let g = bound _ _ d u.2 in
-    same_kind (Move w left top) _ d (some_is _ d g.2) (refl, refl)
-under_kind pixel x y width height (Flip axes) d made = same_kind (Flip axes) _ d (some_is _ d made) (refl, refl)
+    of_more (Move w left top) (window_under x y width height w) (λ under. window_under x y width height (at_corner w left top) >>= λ goal. Some (Move under goal.left goal.top))
+    (λ under. of_more (Move w left top) (window_under x y width height (at_corner w left top)) (λ goal. Some (Move under goal.left goal.top)) (λ goal. at_last (Move w left top) (Move under goal.left goal.top) (refl, refl))) d made
+under_kind pixel x y width height (Flip axes) d made = at_last (Flip axes) (Flip axes) (refl, refl) d made
 
 on_kind : (pixel : Pixel) (layer : Layer) (width height : ℕ) (c : Change Paint) (d : Change (List ℕ)) → change_on pixel layer width height c ≡ Some d → SameKind c d
 on_kind pixel Pixels width height c d made = in_kind pixel c d made

@@ -17,11 +17,11 @@ use Rattle.frame_requests.specs.declared.late.Numbered.{Numbered}
 
 not_spoiled : (hiding : Hiding) (before c : Change Paint) → hides hiding c ≡ false → spoils hiding before c ≡ false
 unfolding spoils
-not_spoiled Fills before c none = grind none
+not_spoiled Fills before c none = grind (arith, none)
 not_spoiled Tiles (Fill w paint) c none = refl
 not_spoiled Tiles (Mosaic w wide high) c none = refl
-not_spoiled Tiles (Mean w wide high bytes) c none = grind none
-not_spoiled Tiles (Blur w across down bytes) c none = grind none
+not_spoiled Tiles (Mean w wide high bytes) c none = grind (arith, none)
+not_spoiled Tiles (Blur w across down bytes) c none = grind (arith, none)
 not_spoiled Tiles (Move w left top) c none = none
 not_spoiled Tiles (Flip axes) c none = refl
 
