@@ -39,6 +39,7 @@ CARGO = '[package]\nname = "shown"\nversion = "0.0.0"\nedition = "2021"\n[depend
 TOOLS = ("ffmpeg", "pngtopnm", "pnmtopng", "pnmdepth", "parallel")
 # The blocks that aren't run here as they are: a page, how they begin, and what tries them, or why nothing does.
 OTHERS = [
+    ("README.md", "apt-get ", "built/release.py, by dpkg -i, and built/hide.py"),
     ("README.md", "make try ", "fresh_machine.py: the picture of `make try`. The gate runs `make test`"),
     ("README.md", "make python ", "proofs/bindings.py"),
     ("README.md", "rt new ", "run_filter"),
@@ -59,6 +60,7 @@ OTHERS = [
     ("docs/HIDE.md", "find in", "built/hide_many.py"),
     ("docs/HIDE.md", "python3 examples/dask_tiles.py", "built/hide_many.py"),
     ("docs/PERF.md", "cd ", "nothing: it proves an old commit, for 25 minutes"),
+    ("docs/PYTHON.md", "python3 -m venv", "built/release.py: the wheel"),
     ("docs/PYTHON.md", "make python", "proofs/bindings.py"),
     ("docs/RELEASE.md", "make test ", "built/release.py"),
     ("docs/RELEASE.md", "sha256sum ", "built/release.py"),

@@ -314,8 +314,7 @@ def given(folder, release):
     shutil.copy2(ROOT / "docs/person.png", folder)
     (folder / "first.c").write_text(snippet("docs/C.md", "#include <imgref.h>"))
     (folder / "readme.cpp").write_text(snippet("README.md", "#include <cstdint>"))
-    example = snippet("docs/CPP.md", "std::vector<unsigned char> cells(640 * 480);")
-    (folder / "first.cpp").write_text(f'#include <imgref.hpp>\n#include <cstdio>\n#include <vector>\nint main() {{\n{example}\nstd::printf("%zu\\n", image.count({{255}}));\n}}\n')
+    (folder / "first.cpp").write_text(snippet("docs/CPP.md", "#include <cstdio>"))
     shutil.copytree(ROOT / "bindings/python/tests", folder / "tests", ignore=shutil.ignore_patterns("__pycache__"))
     (folder / "main.rs").write_text(RUST_USER)
 
