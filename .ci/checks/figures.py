@@ -124,7 +124,7 @@ FIGURES = [
 ]
 # The call that README.md names as the slowest one from Python.
 SLOWEST = {
-    ("components", "1 byte"): "The slowest labels regions.",
+    ("components", "1 byte"): "The slowest labels connected components.",
     ("means of 2 by 2", "3 bytes"): "The slowest takes means of 2 by 2 pixels of three bytes.",
     ("transpose", "3 bytes"): "The slowest transposes pixels of three bytes.",
 }
