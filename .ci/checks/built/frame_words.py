@@ -11,7 +11,7 @@ sys.path.insert(0, str(pathlib.Path(__file__).resolve().parents[2]))
 from checking import Cases, both_builds
 from edits import edits_of, late_pairs
 from version import VERSION
-from tries import FILL, ends, lines_said, video, wanted
+from tries import FILL, ends, lines_said, video, wanted, without_note
 
 # Three edits with ranges, and a crop.
 LIST = "0..2 mosaic 2,2,8,6 4,2 1..3 fill 4,2,2,2 7 crop 2,2,8,6"
@@ -127,11 +127,11 @@ def by_words(cases, program):
     with tempfile.NamedTemporaryFile("w", suffix=".edits") as listed:
         listed.write(LIST.replace(" 1..3", "\n1..3").replace(" crop", "\ncrop") + "\n")
         listed.flush()
-        cases.count("a file of edits is the same as its words", ends(program, ["--edits", listed.name], video("420")) == wanted(video("420"), LIST.split()))
+        cases.count("a file of edits is the same as its words", without_note(*ends(program, ["--edits", listed.name], video("420"))) == wanted(video("420"), LIST.split()))
         listed.seek(0)
         listed.write("# faces\r\n\t" + LIST.replace(" 1..3", "  \r\n \t# fill 0,0,2,2 9\n1..3").replace(" fill ", " \tfill  ").replace(" crop", "# one\n\r\ncrop") + " \t#last")
         listed.flush()
-        cases.count("comments and white space of a file of edits change nothing", ends(program, ["--edits", listed.name], video("420")) == wanted(video("420"), LIST.split()))
+        cases.count("comments and white space of a file of edits change nothing", without_note(*ends(program, ["--edits", listed.name], video("420"))) == wanted(video("420"), LIST.split()))
         for text, status in EDIT_FILES:
             listed.seek(0)
             listed.truncate()
@@ -173,7 +173,9 @@ def by_words(cases, program):
         mine = bytes(chance.randrange(256) for _ in range(128))
         theirs = bytes(chance.randrange(256) if is_covered else cell for cell, is_covered in zip(mine, covered_places(edits, 16, 8)))
         ours, other = (ends(program, ["--strict", *words.split()], b"P5 16 8 255\n" + it) for it in (mine, theirs))
-        cases.count(f"what --strict passes of '{words}' reveals nothing of what is covered", ours == other and ours[2] == (10 if late_pairs(edits) else 0), f"{ours[1:]} {other[1:]}")
+        # (there is one picture, so that a range from 1 on isn't reached)
+        status = 10 if late_pairs(edits) else 8 if any(first > 0 for first, *_ in edits) else 0
+        cases.count(f"what --strict passes of '{words}' reveals nothing of what is covered", ours == other and ours[2] == status, f"{ours[1:]} {other[1:]}")
     for words, shown in (("fil 0,0,2,2 9", "at word 1: fil isn't one of"), ("", "there is no edit")):
         lines = lines_said(program, words.split(), video("mono"))
         cases.count(f"the reason of '{words}' comes first, and the help only where asked", lines[0] == "fault words" and shown in lines[1] and lines[2:] == ["imgref_frames --help lists the edits and the options", ""], str(lines[:4]))
