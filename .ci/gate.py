@@ -52,6 +52,8 @@ GATE_ALONE = (
 LANDING = "--landing"
 # This one makes a release over cached proofs, so the gate runs it in the repository.
 RELEASE = "release.py"
+# Each of these takes all processors by itself, and waits for processes of its own: so they go one after the other.
+IN_TURN = ("hide.py", "hide_phones.py", "hide_many.py")
 # These time calls or the page, so they come last, with nothing beside them.
 TIMED = ("bindings.py", "web.py")
 # The crates that `test` proves, with those below them: the programs and the library for C.
@@ -180,6 +182,11 @@ def cached_checks(without=()):
     return [it for it in every if it.name not in TIMED], [it for it in every if it.name in TIMED]
 
 
+def apart(parts):
+    """A line for each part, and one for all that go one after the other."""
+    return [[it for it in parts if it.name in IN_TURN], *([it] for it in parts if it.name not in IN_TURN)]
+
+
 def sum_of_files():
     """The sum of all files that git has or would take, and of the kit's version. Nothing where git doesn't list them."""
     if not shutil.which("git"):
@@ -252,7 +259,7 @@ def test(parts, _):
     built = scripts(CHECKS / "built", words=[ONE_BUILD], without=GATE_ALONE) + cached
     beside = scripts(CHECKS, without=GATE_ALONE)
     parts += [tests, product, *built, *beside, *timed]
-    side_by_side([[tests], [product, [[it] for it in built]], beside])
+    side_by_side([[tests], [product, apart(built)], beside])
     side_by_side([timed])
 
 
@@ -274,7 +281,7 @@ def landing(parts, only):
     release = Part(RELEASE, [sys.executable, str(CHECKS / "built" / RELEASE)])
     bugs, (cached, timed), beside = planted(only), cached_checks(without=tested), scripts(CHECKS, without=tested)
     parts += [proofs, *built, bugs, *cached, release, *beside, *timed]
-    side_by_side([[proofs, [[bugs], [*cached, release], *([it] for it in built)]], beside])
+    side_by_side([[proofs, [[bugs], [*cached, release], *apart(built)]], beside])
     side_by_side([timed])
 
 
@@ -289,7 +296,7 @@ def from_nothing(parts, only):
         bugs, tested = planted(only), not_tested(CHECKS, CHECKS / "proofs")
         (cached, timed), beside = cached_checks(without=tested), scripts(CHECKS, without=tested)
         parts += [of_ci, *built, proofs, bugs, *cached, release, *beside, *timed]
-        side_by_side([[of_ci, [[it] for it in built]], [proofs, [[bugs], [*cached, release]]], beside])
+        side_by_side([[of_ci, apart(built)], [proofs, [[bugs], [*cached, release]]], beside])
         side_by_side([timed])
         say(f"\n{functions()} functions proved · {tests()} tests · {bugs.passed} planted bugs refused")
 

@@ -64,7 +64,7 @@ elif form == "yolo":
 
 def ffmpeg(folder, words):
     """Runs ffmpeg in a folder on words without spaces in them."""
-    return subprocess.run(["ffmpeg", "-v", "error", "-nostdin", "-y", *words.split()], cwd=folder, check=True, capture_output=True, timeout=300).stdout
+    return subprocess.run(["ffmpeg", "-v", "error", "-nostdin", "-y", *words.split()], cwd=folder, check=True, capture_output=True, timeout=900).stdout
 
 
 def source(width=WIDTH, height=HEIGHT, rate=RATE, frames=FRAMES, square=SQUARE):
@@ -106,7 +106,7 @@ class Place:
     def run(self, folder, *words, fake=True, env=None, **more):
         """Runs imgref-hide in a folder: with the detector that finds the square, and without a sheet."""
         how = {"stdin": subprocess.DEVNULL} | more
-        return subprocess.run(self.words(words, fake), cwd=folder, env=env or self.env, capture_output=True, text=True, errors="replace", timeout=300, **how)
+        return subprocess.run(self.words(words, fake), cwd=folder, env=env or self.env, capture_output=True, text=True, errors="replace", timeout=900, **how)
 
 
 def frames_of(folder, name, pixels="gray"):

@@ -206,7 +206,8 @@ def run_shell(cases, page, block, folder, programs):
         (at / name).mkdir()
     for it in programs:
         (at / "bin" / it.name).symlink_to(it)
-    (at / "docs").symlink_to(ROOT / "docs")
+    for it in ("docs", "examples"):
+        (at / it).symlink_to(ROOT / it)
     for name, how in MADE.items():
         if re.search(rf"\b{re.escape(name)}\b", block) or name.startswith("in/") and f"in/*{pathlib.Path(name).suffix}" in block:
             subprocess.run(how.format(at / name).split(), check=True, stdin=subprocess.DEVNULL)

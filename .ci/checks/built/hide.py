@@ -330,7 +330,7 @@ def by_signals(cases, place):
                 time.sleep(0.05)
             process.send_signal(number)
             process.send_signal(number)
-            said = process.communicate(timeout=60)[1]
+            said = process.communicate(timeout=300)[1]
             lines = [it for it in said.splitlines() if not it.startswith(("detecting:", "covering:"))]
             kept = [it for it in left(folder) if it not in ("in.mp4", "here", "slow")]
             cases.count(f"{number.name} while {moment}: one line, no file, no child", process.returncode == 128 + number and len(lines) == 1 and number.name in said and not kept and not children(folder), f"{process.returncode} {said} {kept} {children(folder)}")

@@ -152,7 +152,7 @@ def by_whole(cases):
 
 def main():
     cases = Cases()
-    if shutil.which("ffmpeg") and shutil.which("ffprobe"):
+    if not cases.lacks("videos that are cut off", "ffmpeg", number=60):
         by_whole(cases)
     for program in both_builds(cases, "imgref_frames"):
         if not cases.lacks("edits beside ffmpeg's filters, and H.264 through the pipe", "ffmpeg", number=87):
