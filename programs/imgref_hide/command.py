@@ -160,7 +160,7 @@ def main(words):
         progress.note(last)
         return 0
     except Interrupted as why:
-        progress.say(f"{running.BACK if progress.is_terminal else ''}imgref-hide: {why} came: nothing was written")
+        progress.say(f"{running.BACK if progress.is_terminal else ''}imgref-hide: {why} came: {'what is done stays' if options.is_many else 'nothing was written'}")
         return 128 + why.number
     except Failure as why:
         progress.say(f"{running.BACK if progress.is_terminal else ''}imgref-hide: {why}")

@@ -59,8 +59,17 @@ class Run:
         covering = [self.program, *words, *self.edits]
         raw, written = self.plan.raw("-frames:v", str(TRIED)), self.plan.written("try", "-t", TRIED_SOUND)
         pipe([Step("ffmpeg can't decode the input, and", raw), Step("imgref_frames", covering), Step("ffmpeg can't encode the output, and", written)], self.work)
+        self.attempt_strict([self.program, "--strict", *words, *self.edits])
         for it in ("try", "boxes.txt", "covered.txt"):
             (self.work / it).unlink(missing_ok=True)
+
+    def attempt_strict(self, covering):
+        """Refuses edits that may show what a later one hides. A range that comes later is no fault here."""
+        try:
+            pipe([Step("ffmpeg", self.plan.raw("-frames:v", str(TRIED))), Step("imgref_frames", covering)], self.work)
+        except Failure as why:
+            if "fault range" not in str(why) or "fault cover" in str(why):
+                raise
 
     def finder(self):
         """The words of the detector without its Python."""

@@ -222,7 +222,7 @@ def why_of(said, status):
     """The last lines that a command said, or the signal that ended it."""
     lines = [it.strip() for it in said.splitlines() if it.strip() and not it.startswith("imgref_frames --help lists")]
     if lines:
-        return ": " + "; ".join(lines[-3:])[-600:]
+        return ": " + "; ".join(lines[-4:])[-800:]
     if status < 0:
         return f": signal {signal.Signals(-status).name} ended it"
     return f" with status {status}"

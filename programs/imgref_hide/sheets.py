@@ -27,11 +27,11 @@ def evenly(its, most):
 def chosen(covered, stretches, most):
     """Which frames are shown: of each stretch without a cover its middle, the longest first, and the rest have covers."""
     longest = sorted(stretches, key=lambda it: it[0] - it[1])[: most // 2]
-    spare = max(0, most // 2 - len(longest))
+    spare = max(0, most // 2 - len(longest)) // max(1, len(longest))
     bare = {(first + last) // 2: (first, last) for first, last in longest}
     # (a stretch that is long has further frames)
     for first, last in longest:
-        for it in evenly(list(range(first, last + 1)), 1 + spare // max(1, len(longest)))[1:]:
+        for it in evenly(range(first, last + 1), spare):
             bare.setdefault(it, (first, last))
     shown = evenly(sorted(covered), most - len(bare))
     return bare, set(shown)

@@ -128,6 +128,8 @@ def by_words(cases, place):
         (["in.mp4", "out.mp4", "--also", "80..20 cover 1,1,2,2"], 1, "fault words"),
         (["in.mp4", "out.mp4", "--also", "fill 150,1,20,2 16"], 1, "fault outside"),
         (["in.mp4", "out.mp4", "--also", "cover 1,1,2"], 1, "fault words"),
+        (["in.mp4", "out.mp4", "--also", "cover 500,500,8,8"], 1, "fault cover"),
+        (["in.mp4", "out.mp4", "--also", "move 0,0,20,20 40,40", "--also", "cover 40,40,10,10"], 1, "fault order"),
         (["in.mp4", "out.mp4", "--also", "cover 1,1,2,2 # so"], 2, "without #"),
         (["in.mp4", "out.mp4", "--edits", "none.txt"], 1, "isn't there"),
         (["in.mp4", "out.mp4", "--model", "m.onnx"], 2, "--model is for"),

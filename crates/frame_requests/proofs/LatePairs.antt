@@ -8,7 +8,7 @@ use Rattle.image_planes.specs.declared.change.Change.TheVariants.{Fill, Mosaic, 
 use Rattle.frame_edits.specs.Order.{covers_first, fills_late, may_meet}
 use Rattle.frame_edits.specs.declared.paint.Paint.{Paint}
 use Rattle.frame_edits.specs.declared.words.Edit.{Edit}
-use Rattle.frame_requests.specs.Late.{hides, hiding_from, is_late, is_mean, is_mosaic, numbered, pairs_among, pairs_from, pairs_with, spoils, tiles_spoiled}
+use Rattle.frame_requests.specs.Late.{hides, hiding_from, is_late, left_after, numbered, pairs_among, pairs_from, pairs_with, spoils, tiles_spoiled}
 use Rattle.frame_requests.specs.declared.late.Hiding.{Hiding}
 use Rattle.frame_requests.specs.declared.late.Hiding.TheVariants.{Fills, Tiles}
 use Rattle.frame_requests.specs.declared.late.Numbered.{Numbered}
@@ -38,7 +38,7 @@ not_spoiling Tiles (Flip axes) c none = refl
 -- ---- the pairs of one edit
 
 among : (hiding : Hiding) (number : ℕ) (before : Edit) (first : ℕ) (es : List Edit) → pairs_among hiding number before (hiding_from hiding first es) ≡ pairs_with hiding number before first es
-unfolding pairs_among hiding_from pairs_with
+unfolding is_late pairs_among hiding_from pairs_with
 among hiding number before first [] = refl
 among hiding number before first (e ∷ es) =
     elim (hides hiding e.change) as (λ b. hides hiding e.change ≡ b → pairs_among hiding number before (if b then numbered first e ∷ hiding_from hiding (first + 1) es else hiding_from hiding (first + 1) es) ≡ pairs_with hiding number before first (e ∷ es)) [
@@ -46,22 +46,13 @@ among hiding number before first (e ∷ es) =
       | false ↦ λ none. among hiding number before (first + 1) es ∙ (let no = not_spoiled hiding before.change e.change none in rw no refl)
     ] refl
 
-none_with : (hiding : Hiding) (number : ℕ) (before : Edit) (first : ℕ) (es : List Edit) → spreads before.change ≡ false → pairs_with hiding number before first es ≡ []
-unfolding pairs_with
-none_with hiding number before first [] none = refl
-none_with hiding number before first (e ∷ es) none = let no = not_spoiling hiding before.change e.change none in rw no (none_with hiding number before (first + 1) es none)
+none_of_others : (hiding : Hiding) (number : ℕ) (before : Edit) (others : List Numbered) → spreads before.change ≡ false → pairs_among hiding number before others ≡ []
+unfolding is_late pairs_among
+none_of_others hiding number before [] none = refl
+none_of_others hiding number before (o ∷ os) none = let no = not_spoiling hiding before.change o.edit.change none in rw no (none_of_others hiding number before os none)
 
--- without an edit that hides pixels so there is no pair
-none_from : (hiding : Hiding) (number : ℕ) (es : List Edit) → hiding_from hiding number es ≡ [] → pairs_from hiding number es ≡ []
-unfolding hiding_from pairs_from pairs_among
-none_from hiding number [] none = refl
-none_from hiding number (e ∷ es) none =
-    elim (hides hiding e.change) as (λ b. (if b then numbered number e ∷ hiding_from hiding (number + 1) es else hiding_from hiding (number + 1) es) ≡ [] → pairs_from hiding number (e ∷ es) ≡ []) [
-      | true ↦ λ some. absurd cc
-      | false ↦ λ none. (
-          let one : pairs_with hiding number e (number + 1) es ≡ [] = sym (among hiding number e (number + 1) es) ∙ ap (pairs_among hiding number e) none in
-          rw one (none_from hiding (number + 1) es none))
-    ] none
+pub none_among : (hiding : Hiding) (number : ℕ) (before : Edit) (others : List Numbered) (front : List (ℕ × ℕ)) → spreads before.change ≡ false → front ≡ front ++ pairs_among hiding number before others
+none_among hiding number before others front none = sym (ap (λ l. front ++ l) (none_of_others hiding number before others none) ∙ append-nil front)
 
 -- ---- one edit after the other
 
@@ -102,46 +93,25 @@ all_paired hiding number before front xs i total past so_far = sym (append-nil f
 -- ---- all pairs
 
 -- those of one edit more
-pub pairs_more : (hiding : Hiding) (front : List (ℕ × ℕ)) (xs : List Edit) (i : ℕ) (d : Edit) (total : List (ℕ × ℕ)) → i < length xs
-    → front ++ pairs_from hiding i (drop i xs) ≡ total → (front ++ pairs_among hiding i (get_or xs i d) (hiding_from hiding (i + 1) (drop (i + 1) xs))) ++ pairs_from hiding (i + 1) (drop (i + 1) xs) ≡ total
+pub pairs_more : (hiding : Hiding) (front : List (ℕ × ℕ)) (xs : List Edit) (i : ℕ) (d : Edit) (rest : List Numbered) (total : List (ℕ × ℕ)) → i < length xs → rest ≡ hiding_from hiding (i + 1) (drop (i + 1) xs)
+    → front ++ pairs_from hiding i (drop i xs) ≡ total → (front ++ pairs_among hiding i (get_or xs i d) rest) ++ pairs_from hiding (i + 1) (drop (i + 1) xs) ≡ total
 unfolding pairs_from
-pairs_more hiding front xs i d total within so_far =
-    append_assoc front (pairs_among hiding i (get_or xs i d) (hiding_from hiding (i + 1) (drop (i + 1) xs))) (pairs_from hiding (i + 1) (drop (i + 1) xs))
-    ∙ ap (λ l. front ++ (l ++ pairs_from hiding (i + 1) (drop (i + 1) xs))) (among hiding i (get_or xs i d) (i + 1) (drop (i + 1) xs))
+pairs_more hiding front xs i d rest total within are so_far =
+    append_assoc front (pairs_among hiding i (get_or xs i d) rest) (pairs_from hiding (i + 1) (drop (i + 1) xs))
+    ∙ ap (λ l. front ++ (l ++ pairs_from hiding (i + 1) (drop (i + 1) xs))) (ap (pairs_among hiding i (get_or xs i d)) are ∙ among hiding i (get_or xs i d) (i + 1) (drop (i + 1) xs))
     ∙ sym (at_drop_more (λ ys. front ++ pairs_from hiding i ys) xs i d within) ∙ so_far
-
--- an edit that spreads no pixels has none
-pub pairs_passed : (hiding : Hiding) (front : List (ℕ × ℕ)) (xs : List Edit) (i : ℕ) (d : Edit) (total : List (ℕ × ℕ)) → i < length xs → spreads (get_or xs i d).change ≡ false
-    → front ++ pairs_from hiding i (drop i xs) ≡ total → front ++ pairs_from hiding (i + 1) (drop (i + 1) xs) ≡ total
-unfolding pairs_from
-pairs_passed hiding front xs i d total within here so_far =
-    sym (at_drop_more (λ ys. front ++ pairs_from hiding i ys) xs i d within
-    ∙ ap (λ l. front ++ (l ++ pairs_from hiding (i + 1) (drop (i + 1) xs))) (none_with hiding i (get_or xs i d) (i + 1) (drop (i + 1) xs) here)) ∙ so_far
-
--- after the last edit that hides pixels there is none
-pub pairs_ended : (hiding : Hiding) (front : List (ℕ × ℕ)) (xs : List Edit) (i : ℕ) (d : Edit) (total : List (ℕ × ℕ)) → i < length xs → hiding_from hiding (i + 1) (drop (i + 1) xs) ≡ []
-    → front ++ pairs_from hiding i (drop i xs) ≡ total → front ≡ total
-unfolding pairs_from pairs_among
-pairs_ended hiding front xs i d total within none so_far =
-    sym (at_drop_more (λ ys. front ++ pairs_from hiding i ys) xs i d within
-    ∙ ap (λ l. front ++ (l ++ pairs_from hiding (i + 1) (drop (i + 1) xs))) (sym (among hiding i (get_or xs i d) (i + 1) (drop (i + 1) xs)) ∙ ap (pairs_among hiding i (get_or xs i d)) none)
-    ∙ ap (λ l. front ++ l) (none_from hiding (i + 1) (drop (i + 1) xs) none) ∙ append-nil front) ∙ so_far
 
 pub pairs_done : (hiding : Hiding) (front : List (ℕ × ℕ)) (xs : List Edit) (i : ℕ) (total : List (ℕ × ℕ)) → length xs ≤ i → front ++ pairs_from hiding i (drop i xs) ≡ total → front ≡ total
 unfolding pairs_from
 pairs_done hiding front xs i total past so_far = sym (append-nil front) ∙ sym (at_drop_all (λ ys. front ++ pairs_from hiding i ys) xs i past) ∙ so_far
 
--- ---- the later edits that are left
-
-pub first_left : (hiding : Hiding) (rest : List Numbered) (xs : List Edit) (i : ℕ) (d : Edit) → i < length xs → hides hiding (get_or xs i d).change ≡ true → rest ≡ hiding_from hiding i (drop i xs)
-    → rest ≡ numbered i (get_or xs i d) ∷ hiding_from hiding (i + 1) (drop (i + 1) xs)
+-- the later edits that are left after one more
+pub rest_left : (hiding : Hiding) (rest : List Numbered) (xs : List Edit) (i : ℕ) (d : Edit) → i < length xs → rest ≡ hiding_from hiding i (drop i xs) → left_after hiding (get_or xs i d) rest ≡ hiding_from hiding (i + 1) (drop (i + 1) xs)
 unfolding hiding_from
-first_left hiding rest xs i d within here is = is ∙ at_drop_more (hiding_from hiding i) xs i d within ∙ rw here refl
-
-pub all_left : (hiding : Hiding) (rest : List Numbered) (xs : List Edit) (i : ℕ) (d : Edit) → i < length xs → hides hiding (get_or xs i d).change ≡ false → rest ≡ hiding_from hiding i (drop i xs)
-    → rest ≡ hiding_from hiding (i + 1) (drop (i + 1) xs)
-unfolding hiding_from
-all_left hiding rest xs i d within here is = is ∙ at_drop_more (hiding_from hiding i) xs i d within ∙ rw here refl
+rest_left hiding rest xs i d within is =
+    ap (left_after hiding (get_or xs i d)) (is ∙ at_drop_more (hiding_from hiding i) xs i d within) ∙
+    (elim (hides hiding (get_or xs i d).change) as (λ b. (if b then drop 1 (if b then numbered i (get_or xs i d) ∷ hiding_from hiding (i + 1) (drop (i + 1) xs) else hiding_from hiding (i + 1) (drop (i + 1) xs))
+    else (if b then numbered i (get_or xs i d) ∷ hiding_from hiding (i + 1) (drop (i + 1) xs) else hiding_from hiding (i + 1) (drop (i + 1) xs))) ≡ hiding_from hiding (i + 1) (drop (i + 1) xs)) [ true ↦ refl | false ↦ refl ])
 
 -- ---- no pair
 
@@ -158,7 +128,7 @@ nil_parts [] ys e = (refl, e)
 nil_parts (x ∷ xs) ys e = absurd cc
 
 with_none : (number : ℕ) (before : Edit) (first : ℕ) (es : List Edit) → pairs_with Fills number before first es ≡ [] → list_any (λ later. fills_late before later) es ≡ false
-unfolding pairs_with spoils
+unfolding is_late pairs_with spoils
 with_none number before first [] none = refl
 with_none number before first (e ∷ es) none = elim (is_late Fills before e) as (λ b. is_late Fills before e ≡ b → (if b then (number, first) ∷ pairs_with Fills number before (first + 1) es else pairs_with Fills number before (first + 1) es) ≡ [] → list_any (λ later. fills_late before later) (e ∷ es) ≡ false) [
   | true ↦ λ is some. absurd cc
@@ -166,7 +136,7 @@ with_none number before first (e ∷ es) none = elim (is_late Fills before e) as
 ] refl none
 
 none_then : (number : ℕ) (before : Edit) (first : ℕ) (es : List Edit) → list_any (λ later. fills_late before later) es ≡ false → pairs_with Fills number before first es ≡ []
-unfolding pairs_with spoils
+unfolding is_late pairs_with spoils
 none_then number before first [] none = refl
 none_then number before first (e ∷ es) none = elim (fills_late before e) as (λ b. fills_late before e ≡ b → b || list_any (λ later. fills_late before later) es ≡ false → pairs_with Fills number before first (e ∷ es) ≡ []) [
   | true ↦ λ is some. absurd cc

@@ -1,5 +1,5 @@
 -- Pairs of edits: one that may show pixels, and a later one of the same frames that hides them.
-use Rattle.std.specs.Prelude.{ℕ, ◌+◌, ◌&&◌, ◌||◌, Bool, true, false, not, List, [], ◌∷◌, ◌++◌, if◌then◌else◌}
+use Rattle.std.specs.Prelude.{ℕ, ◌+◌, ◌&&◌, ◌||◌, Bool, true, false, not, List, [], ◌∷◌, ◌++◌, if◌then◌else◌, drop}
 use Rattle.text_model.specs.Reading.{is_nil}
 use Rattle.image_planes.specs.Filled.{fills, spreads}
 use Rattle.image_planes.specs.declared.change.Change.{Change}
@@ -34,7 +34,7 @@ spoils Fills before edit = spreads before && fills edit
 spoils Tiles before edit = tiles_spoiled before edit
 
 -- the same of edits of which both may be for one frame
-abbrev pub is_late : Hiding → Edit → Edit → Bool
+unfoldable pub is_late : Hiding → Edit → Edit → Bool
 is_late hiding before edit = spoils hiding before.change edit.change && may_meet before.range edit.range
 
 -- the pairs of an edit and those after it, the first of which has this number
@@ -68,6 +68,10 @@ numbered number edit = record { number = number; edit = edit }
 unfoldable pub hiding_from : Hiding → ℕ → List Edit → List Numbered
 hiding_from hiding first [] = []
 hiding_from hiding first (e ∷ es) = if hides hiding e.change then numbered first e ∷ hiding_from hiding (first + 1) es else hiding_from hiding (first + 1) es
+
+-- those of the later edits that are left after one of all
+abbrev pub left_after : Hiding → Edit → List Numbered → List Numbered
+left_after hiding e later = if hides hiding e.change then drop 1 later else later
 
 -- the pairs of an edit and others
 unfoldable pub pairs_among : Hiding → ℕ → Edit → List Numbered → List (ℕ × ℕ)

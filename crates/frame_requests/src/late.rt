@@ -2,7 +2,7 @@
 
 ghost use Rattle.std.specs.Prelude.{◌≡◌, ◌↔◌, ◌++◌, [], true, IfOk};
 ghost use Rattle.frame_edits.specs.Order.{covers_first, ends_after, may_meet};
-ghost use Rattle.frame_requests.specs.Late.{hides, hiding_from, late_pairs, pairs_among, spoils, tiles_spoiled};
+ghost use Rattle.frame_requests.specs.Late.{hides, hiding_from, is_late, late_pairs, left_after, pairs_among, spoils, tiles_spoiled};
 ghost use Rattle.image_planes.specs.Filled.{spreads};
 
 use frame_edits::{Edit, Paint};
@@ -103,8 +103,16 @@ fn spoils(hiding: Hiding, before: Change<Paint>, change: Change<Paint>) -> bool
     }
 }
 
+// Whether an edit is late after another.
+#[tactic(auto, unfolding(crate::specs::Late::is_late))]
+fn is_late(hiding: Hiding, before: Edit, edit: Edit) -> bool
+    ensures { result ≡ is_late hiding before edit }
+{
+    spoils(hiding, before.change, edit.change) && may_meet(before.range, edit.range)
+}
+
 // The edits that hide pixels so, with their numbers. These are the later ones of all pairs.
-#[tactic(auto, using(crate::proofs::LatePairs::one_kept, crate::proofs::LatePairs::one_left, crate::proofs::LatePairs::all_kept))]
+#[tactic(auto, using(crate::proofs::LatePairs::one_kept, crate::proofs::LatePairs::one_left))]
 fn hiding_edits(alloc: Global, hiding: Hiding, steps: &[Edit]) -> Result<Vec<Numbered>, AllocError>
     ensures { IfOk result (λ found. found.items ≡ hiding_from hiding 0 steps.now) }
 {
@@ -118,8 +126,39 @@ fn hiding_edits(alloc: Global, hiding: Hiding, steps: &[Edit]) -> Result<Vec<Num
     Ok(found)
 }
 
-// Adds the pairs of an edit and those after it.
-#[tactic(auto, using(crate::proofs::LatePairs::pair_added, crate::proofs::LatePairs::no_pair, crate::proofs::LatePairs::all_paired))]
+// Those of the later edits that are left after this one.
+fn left_after<'a>(hiding: Hiding, edit: Edit, later: &'a [Numbered]) -> &'a [Numbered]
+    ensures { result.now ≡ left_after hiding edit later.now }
+{
+    if !hides(hiding, edit.change) {
+        return later;
+    }
+    match later {
+        [_, others @ ..] => others,
+        [] => later,
+    }
+}
+
+// Adds the pairs of an edit that spreads pixels and those after it.
+#[tactic(auto, using(crate::proofs::LatePairs::pair_added, crate::proofs::LatePairs::no_pair))]
+fn add_spread(
+    pairs: &mut Vec<(usize, usize)>,
+    hiding: Hiding,
+    before: Numbered,
+    others: &[Numbered],
+) -> Result<(), AllocError>
+    ensures { IfOk result (λ _. pairs.new.items
+        ≡ pairs.old.items ++ pairs_among hiding before.number before.edit others.now) }
+{
+    for at in 0..others.len() {
+        if is_late(hiding, before.edit, others[at].edit) {
+            pairs.push((before.number, others[at].number))?;
+        }
+    }
+    Ok(())
+}
+
+// The same of any edit. Where it spreads none, the others needn't be looked at.
 fn add_pairs(
     pairs: &mut Vec<(usize, usize)>,
     hiding: Hiding,
@@ -129,14 +168,10 @@ fn add_pairs(
     ensures { IfOk result (λ _. pairs.new.items
         ≡ pairs.old.items ++ pairs_among hiding before.number before.edit others.now) }
 {
-    for other in others {
-        let is_late = spoils(hiding, before.edit.change, other.edit.change)
-            && may_meet(before.edit.range, other.edit.range);
-        if is_late {
-            pairs.push((before.number, other.number))?;
-        }
+    if !spreads(before.edit.change) {
+        return Ok(());
     }
-    Ok(())
+    add_spread(pairs, hiding, before, others)
 }
 
 /// The pairs of an edit that may show pixels and a later one that hides some in the same frame, by
@@ -147,7 +182,6 @@ fn add_pairs(
 /// # Errors
 ///
 /// Out of memory.
-#[tactic(auto, using(crate::proofs::LatePairs::pairs_more, crate::proofs::LatePairs::pairs_passed, crate::proofs::LatePairs::pairs_ended, crate::proofs::LatePairs::pairs_done, crate::proofs::LatePairs::first_left, crate::proofs::LatePairs::all_left, crate::proofs::LatePairs::none_exactly))]
 pub fn late_pairs(
     alloc: Global,
     hiding: Hiding,
@@ -164,22 +198,9 @@ pub fn late_pairs(
     let mut rest: &[Numbered] = &later;
     let mut pairs = Vec::new(alloc);
     for number in 0..steps.len() {
-        let before = steps[number];
-        if hides(hiding, before.change) {
-            if let [_, others @ ..] = rest {
-                rest = others;
-            }
-        }
-        if rest.is_empty() {
-            break;
-        }
-        if spreads(before.change) {
-            let before = Numbered {
-                number,
-                edit: before,
-            };
-            add_pairs(&mut pairs, hiding, before, rest)?;
-        }
+        let edit = steps[number];
+        rest = left_after(hiding, edit, rest);
+        add_pairs(&mut pairs, hiding, Numbered { number, edit }, rest)?;
     }
     Ok(pairs)
 }
