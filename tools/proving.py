@@ -211,10 +211,11 @@ def prove(names, progress, after=()):
 
 
 def jobs_of(name, is_long, idle, ready):
-    """How many jobs a proof takes: the first of a long chain all that help it, another what no other crate waits for."""
+    """How many jobs a proof takes: the first of a long chain all that no other crate waits for, but two at least; another one of
+    them, or two where they are idle. Each job reads the libraries anew."""
     most = min(processors(), MOST_JOBS)
     if is_long and weight(name) > LARGE:
-        return most
+        return min(most, max(2, idle - ready + 1))
     return max(1, min(most, idle // max(ready, 1), 2))
 
 
