@@ -165,8 +165,8 @@ def may_meet(one, other):
 
 
 def late_pairs(edits):
-    """The numbers, from 1, of each edit that may show pixels and of a later one that hides some in the same frame: first those with a cover or a fill."""
-    spoilt = ({it: ("cover", "fill") for it in ("move", "mosaic", "means", "blur")}, {"move": ("mosaic", "means"), "means": ("mosaic",), "blur": ("mosaic",)})
+    """The numbers, from 1, of each edit that may show pixels and of a later one that hides some in the same frame: those with a cover or a fill, then those with a mosaic, then those with means."""
+    spoilt = ({it: ("cover", "fill") for it in ("move", "mosaic", "means", "blur")}, {it: ("mosaic",) for it in ("move", "means", "blur")}, {"move": ("means",)})
     numbers = range(len(edits))
     return [(one + 1, other + 1) for kind in spoilt for one in numbers for other in numbers[one + 1:] if edits[other][2] in kind.get(edits[one][2], ()) and may_meet(edits[one], edits[other])]
 

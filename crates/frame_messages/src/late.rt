@@ -70,11 +70,13 @@ impl Noted<'_> {
             (λ late. late ≡ false → covers_first self.entry.steps.now ≡ true) }
     {
         let fills = late_pairs(self.rt.alloc(), Hiding::Fills, self.steps)?;
-        let tiles = late_pairs(self.rt.alloc(), Hiding::Tiles, self.steps)?;
+        let mosaics = late_pairs(self.rt.alloc(), Hiding::Mosaics, self.steps)?;
+        let means = late_pairs(self.rt.alloc(), Hiding::Means, self.steps)?;
         let mut notes = Notes::new(self.rt, self.strict, "fault order");
         self.say_pairs(&mut notes, &fills);
-        self.say_pairs(&mut notes, &tiles);
+        self.say_pairs(&mut notes, &mosaics);
+        self.say_pairs(&mut notes, &means);
         notes.end();
-        Ok(!fills.is_empty() || !tiles.is_empty())
+        Ok(!fills.is_empty() || !mosaics.is_empty() || !means.is_empty())
     }
 }

@@ -2,38 +2,28 @@
 use Rattle.std.proofs.Common.{◌≡◌, ◌↔◌, ℕ, ◌+◌, ◌<◌, ◌≤◌, ◌&&◌, ◌||◌, Bool, true, false, not, if◌then◌else◌, List, [], ◌∷◌, ◌++◌, length, drop, get_or, refl, sym, ap, ◌∙◌, arith, append_assoc}
 use Rattle.std.specs.List.{list_any}
 use Rattle.std.proofs.lemmas.List.{append-nil, at_drop_more, at_drop_all}
-use Rattle.image_planes.specs.Filled.{fills, spreads}
 use Rattle.image_planes.specs.declared.change.Change.{Change}
-use Rattle.image_planes.specs.declared.change.Change.TheVariants.{Fill, Mosaic, Mean, Blur, Move, Flip}
-use Rattle.frame_edits.specs.Order.{covers_first, fills_late, may_meet}
+use Rattle.frame_edits.specs.Order.{covers_first, fills_late}
 use Rattle.frame_edits.specs.declared.paint.Paint.{Paint}
 use Rattle.frame_edits.specs.declared.words.Edit.{Edit}
-use Rattle.frame_requests.specs.Late.{hides, hiding_from, is_late, left_after, numbered, pairs_among, pairs_from, pairs_with, spoils, tiles_spoiled}
+use Rattle.frame_requests.specs.Late.{hides, hiding_from, is_early, is_late, left_after, numbered, pairs_among, pairs_from, pairs_with, spoils}
 use Rattle.frame_requests.specs.declared.late.Hiding.{Hiding}
-use Rattle.frame_requests.specs.declared.late.Hiding.TheVariants.{Fills, Tiles}
+use Rattle.frame_requests.specs.declared.late.Hiding.TheVariants.{Fills, Mosaics, Means}
 use Rattle.frame_requests.specs.declared.late.Numbered.{Numbered}
 
 -- ---- one change and another
 
 not_spoiled : (hiding : Hiding) (before c : Change Paint) → hides hiding c ≡ false → spoils hiding before c ≡ false
 unfolding spoils
-not_spoiled Fills before c none = grind (arith, none)
-not_spoiled Tiles (Fill w paint) c none = refl
-not_spoiled Tiles (Mosaic w wide high) c none = refl
-not_spoiled Tiles (Mean w wide high bytes) c none = grind (arith, none)
-not_spoiled Tiles (Blur w across down bytes) c none = grind (arith, none)
-not_spoiled Tiles (Move w left top) c none = none
-not_spoiled Tiles (Flip axes) c none = refl
+not_spoiled hiding before c none = rw none (neither (is_early hiding before))
+  where
+    neither : (b : Bool) → b && false ≡ false
+    neither true = refl
+    neither false = refl
 
-not_spoiling : (hiding : Hiding) (before c : Change Paint) → spreads before ≡ false → spoils hiding before c ≡ false
+not_spoiling : (hiding : Hiding) (before c : Change Paint) → is_early hiding before ≡ false → spoils hiding before c ≡ false
 unfolding spoils
-not_spoiling Fills before c none = rw none refl
-not_spoiling Tiles (Fill w paint) c none = refl
-not_spoiling Tiles (Mosaic w wide high) c none = cc
-not_spoiling Tiles (Mean w wide high bytes) c none = cc
-not_spoiling Tiles (Blur w across down bytes) c none = cc
-not_spoiling Tiles (Move w left top) c none = cc
-not_spoiling Tiles (Flip axes) c none = refl
+not_spoiling hiding before c none = rw none refl
 
 -- ---- the pairs of one edit
 
@@ -46,12 +36,12 @@ among hiding number before first (e ∷ es) =
       | false ↦ λ none. among hiding number before (first + 1) es ∙ (let no = not_spoiled hiding before.change e.change none in rw no refl)
     ] refl
 
-none_of_others : (hiding : Hiding) (number : ℕ) (before : Edit) (others : List Numbered) → spreads before.change ≡ false → pairs_among hiding number before others ≡ []
+none_of_others : (hiding : Hiding) (number : ℕ) (before : Edit) (others : List Numbered) → is_early hiding before.change ≡ false → pairs_among hiding number before others ≡ []
 unfolding is_late pairs_among
 none_of_others hiding number before [] none = refl
 none_of_others hiding number before (o ∷ os) none = let no = not_spoiling hiding before.change o.edit.change none in rw no (none_of_others hiding number before os none)
 
-pub none_among : (hiding : Hiding) (number : ℕ) (before : Edit) (others : List Numbered) (front : List (ℕ × ℕ)) → spreads before.change ≡ false → front ≡ front ++ pairs_among hiding number before others
+pub none_among : (hiding : Hiding) (number : ℕ) (before : Edit) (others : List Numbered) (front : List (ℕ × ℕ)) → is_early hiding before.change ≡ false → front ≡ front ++ pairs_among hiding number before others
 none_among hiding number before others front none = sym (ap (λ l. front ++ l) (none_of_others hiding number before others none) ∙ append-nil front)
 
 -- ---- one edit after the other
@@ -162,4 +152,5 @@ none_where_first number (e ∷ es) first =
 -- there is none exactly where covers and fills come first
 pub none_exactly : (hiding : Hiding) (pairs : List (ℕ × ℕ)) (es : List Edit) → pairs ≡ pairs_from hiding 0 es → hiding ≡ Fills → (pairs ≡ []) ↔ (covers_first es ≡ true)
 none_exactly Fills pairs es are is = (λ none. first_where_none 0 es (sym are ∙ none), λ first. are ∙ none_where_first 0 es first)
-none_exactly Tiles pairs es are is = absurd cc
+none_exactly Mosaics pairs es are is = absurd cc
+none_exactly Means pairs es are is = absurd cc

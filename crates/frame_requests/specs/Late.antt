@@ -8,7 +8,7 @@ use Rattle.frame_edits.specs.Order.{may_meet}
 use Rattle.frame_edits.specs.declared.paint.Paint.{Paint}
 use Rattle.frame_edits.specs.declared.words.Edit.{Edit}
 use Rattle.frame_requests.specs.declared.late.Hiding.{Hiding}
-use Rattle.frame_requests.specs.declared.late.Hiding.TheVariants.{Fills, Tiles}
+use Rattle.frame_requests.specs.declared.late.Hiding.TheVariants.{Fills, Mosaics, Means}
 use Rattle.frame_requests.specs.declared.late.Numbered.{Numbered}
 
 abbrev pub is_mosaic : Change Paint → Bool
@@ -19,19 +19,33 @@ abbrev pub is_mean : Change Paint → Bool
 is_mean (Mean w wide high bytes) = true
 is_mean _ = false
 
--- a mosaic after means, a blur or a move, or means after a move
-abbrev pub tiles_spoiled : Change Paint → Change Paint → Bool
-tiles_spoiled (Fill w paint) edit = false
-tiles_spoiled (Mosaic w wide high) edit = false
-tiles_spoiled (Mean w wide high bytes) edit = is_mosaic edit
-tiles_spoiled (Blur w across down bytes) edit = is_mosaic edit
-tiles_spoiled (Move w left top) edit = is_mosaic edit || is_mean edit
-tiles_spoiled (Flip axes) edit = false
+abbrev pub is_move : Change Paint → Bool
+is_move (Move w left top) = true
+is_move _ = false
+
+-- means, a blur or a move
+abbrev pub mixes : Change Paint → Bool
+mixes (Fill w paint) = false
+mixes (Mosaic w wide high) = false
+mixes (Mean w wide high bytes) = true
+mixes (Blur w across down bytes) = true
+mixes (Move w left top) = true
+mixes (Flip axes) = false
+
+-- what comes too early for covers and fills, for mosaics and for means
+abbrev pub is_early : Hiding → Change Paint → Bool
+is_early Fills change = spreads change
+is_early Mosaics change = mixes change
+is_early Means change = is_move change
+
+abbrev pub hides : Hiding → Change Paint → Bool
+hides Fills change = fills change
+hides Mosaics change = is_mosaic change
+hides Means change = is_mean change
 
 -- a change that hides pixels so, of which the one before it may show something
 unfoldable pub spoils : Hiding → Change Paint → Change Paint → Bool
-spoils Fills before edit = spreads before && fills edit
-spoils Tiles before edit = tiles_spoiled before edit
+spoils hiding before edit = is_early hiding before && hides hiding edit
 
 -- the same of edits of which both may be for one frame
 unfoldable pub is_late : Hiding → Edit → Edit → Bool
@@ -53,13 +67,9 @@ late_pairs hiding steps = pairs_from hiding 0 steps
 
 -- a note is due
 abbrev pub is_noted : List Edit → Bool
-is_noted steps = not (is_nil (late_pairs Fills steps)) || not (is_nil (late_pairs Tiles steps))
+is_noted steps = not (is_nil (late_pairs Fills steps)) || (not (is_nil (late_pairs Mosaics steps)) || not (is_nil (late_pairs Means steps)))
 
 -- ---- as they are looked for
-
-abbrev pub hides : Hiding → Change Paint → Bool
-hides Fills change = fills change
-hides Tiles change = is_mosaic change || is_mean change
 
 abbrev pub numbered : ℕ → Edit → Numbered
 numbered number edit = record { number = number; edit = edit }

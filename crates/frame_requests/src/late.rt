@@ -2,8 +2,7 @@
 
 ghost use Rattle.std.specs.Prelude.{◌≡◌, ◌↔◌, ◌++◌, [], true, IfOk};
 ghost use Rattle.frame_edits.specs.Order.{covers_first, ends_after, may_meet};
-ghost use Rattle.frame_requests.specs.Late.{hides, hiding_from, is_late, late_pairs, left_after, pairs_among, spoils, tiles_spoiled};
-ghost use Rattle.image_planes.specs.Filled.{spreads};
+ghost use Rattle.frame_requests.specs.Late.{hides, hiding_from, is_early, is_late, late_pairs, left_after, pairs_among, spoils};
 
 use frame_edits::{Edit, Paint};
 use frame_lists::Range;
@@ -15,8 +14,10 @@ use std::alloc::{AllocError, Global};
 pub enum Hiding {
     /// All of its rectangle: a cover or a fill.
     Fills,
-    /// All but a pixel, or the mean, of each tile: a mosaic, or means.
-    Tiles,
+    /// All but a pixel of each tile: a mosaic.
+    Mosaics,
+    /// All but the mean of each tile: means.
+    Means,
 }
 
 // An edit, and its number from 0.
@@ -58,37 +59,28 @@ fn may_meet(one: Range, other: Range) -> bool
     }
 }
 
-// Whether a change may show pixels of its rectangle at other places.
-fn spreads(change: Change<Paint>) -> bool
-    ensures { result ≡ spreads change }
+// Whether a change comes too early for some that hide pixels.
+fn is_early(hiding: Hiding, change: Change<Paint>) -> bool
+    ensures { result ≡ is_early hiding change }
 {
     match change {
-        Change::Mosaic { .. } | Change::Mean { .. } | Change::Blur { .. } | Change::Move { .. } => {
-            true
-        }
+        Change::Move { .. } => true,
+        Change::Mean { .. } => hiding != Hiding::Means,
+        Change::Blur { .. } => hiding != Hiding::Means,
+        Change::Mosaic { .. } => hiding == Hiding::Fills,
         Change::Fill { .. } | Change::Flip(_) => false,
     }
 }
 
-// Whether it hides pixels so.
+// Whether a change hides pixels so.
 fn hides(hiding: Hiding, change: Change<Paint>) -> bool
     ensures { result ≡ hides hiding change }
 {
     match change {
         Change::Fill { .. } => hiding == Hiding::Fills,
-        Change::Mosaic { .. } | Change::Mean { .. } => hiding == Hiding::Tiles,
+        Change::Mosaic { .. } => hiding == Hiding::Mosaics,
+        Change::Mean { .. } => hiding == Hiding::Means,
         Change::Blur { .. } | Change::Move { .. } | Change::Flip(_) => false,
-    }
-}
-
-// Whether a mosaic or means hide pixels of which a change before them may show something.
-fn spoils_tiles(before: Change<Paint>, change: Change<Paint>) -> bool
-    ensures { result ≡ tiles_spoiled before change }
-{
-    match before {
-        Change::Move { .. } => matches!(change, Change::Mosaic { .. } | Change::Mean { .. }),
-        Change::Mean { .. } | Change::Blur { .. } => matches!(change, Change::Mosaic { .. }),
-        Change::Fill { .. } | Change::Mosaic { .. } | Change::Flip(_) => false,
     }
 }
 
@@ -97,10 +89,7 @@ fn spoils_tiles(before: Change<Paint>, change: Change<Paint>) -> bool
 fn spoils(hiding: Hiding, before: Change<Paint>, change: Change<Paint>) -> bool
     ensures { result ≡ spoils hiding before change }
 {
-    match hiding {
-        Hiding::Fills => spreads(before) && matches!(change, Change::Fill { .. }),
-        Hiding::Tiles => spoils_tiles(before, change),
-    }
+    is_early(hiding, before) && hides(hiding, change)
 }
 
 // Whether an edit is late after another.
@@ -139,9 +128,9 @@ fn left_after<'a>(hiding: Hiding, edit: Edit, later: &'a [Numbered]) -> &'a [Num
     }
 }
 
-// Adds the pairs of an edit that spreads pixels and those after it.
+// Adds the pairs of an edit and those after it.
 #[tactic(auto, using(crate::proofs::LatePairs::pair_added, crate::proofs::LatePairs::no_pair))]
-fn add_spread(
+fn add_early(
     pairs: &mut Vec<(usize, usize)>,
     hiding: Hiding,
     before: Numbered,
@@ -158,7 +147,7 @@ fn add_spread(
     Ok(())
 }
 
-// The same of any edit. Where it spreads none, the others needn't be looked at.
+// The same. Where the edit isn't one that comes too early, the others needn't be looked at.
 fn add_pairs(
     pairs: &mut Vec<(usize, usize)>,
     hiding: Hiding,
@@ -168,16 +157,16 @@ fn add_pairs(
     ensures { IfOk result (λ _. pairs.new.items
         ≡ pairs.old.items ++ pairs_among hiding before.number before.edit others.now) }
 {
-    if !spreads(before.edit.change) {
+    if !is_early(hiding, before.edit.change) {
         return Ok(());
     }
-    add_spread(pairs, hiding, before, others)
+    add_early(pairs, hiding, before, others)
 }
 
 /// The pairs of an edit that may show pixels and a later one that hides some in the same frame, by
 /// their numbers from 0. With `Fills` the first is a move, a mosaic, means or a blur, and the second
-/// a cover or a fill. With `Tiles` the second is a mosaic after a move, means or a blur, or means
-/// after a move. What comes between them doesn't count, and neither does where they are.
+/// a cover or a fill. With `Mosaics` the second is a mosaic after a move, means or a blur, and with
+/// `Means` means after a move. What comes between them doesn't count, and neither does where they are.
 ///
 /// # Errors
 ///

@@ -1,6 +1,6 @@
 use Rattle.std.proofs.Common.{◌≡◌, ◌++◌, drop}
 use Rattle.frame_requests.specs.Late.{pairs_among}
-use Rattle.frame_requests.proofs.late.add_spread.Given as goal
+use Rattle.frame_requests.proofs.late.add_early.Given as goal
 
 -- those so far, and those of the others that are left
 abbrev pub invariant-loop-at : goal.invariant-loop-at
