@@ -24,7 +24,7 @@ from proving import After, Progress, all_below, prove_changed, run, weight, weig
 from workspace import PARTS, entries, is_program, keep_program, own_sources, product, room, with_those_below
 
 # What a crate's last line says, and words that it may not have: what a verdict refuses.
-PROVED, REFUSED = re.compile(r"^logic=proved .*$"), ("foreign", "axioms", "threads", "main", "may-abort", "partial", "may-wait", "may-serve", "hides", "bugs")
+PROVED, REFUSED = re.compile(r"^logic=proved .*$"), ("foreign", "may-abort", "partial", "may-wait", "may-serve", "hides", "bugs")
 # Lines that a verdict refuses: a contract that no call can meet, a search for such contracts that did not end, a tactic that chose what
 # a contract says, a pattern that takes each value, and what `rt check` itself says a verdict refuses.
 WARNED = re.compile(
