@@ -141,7 +141,7 @@ def main():
     shape, kind = picture.shape, picture.dtype
     del picture
     target.create((shape, kind, options.block))
-    where = {"address": options.scheduler} if options.scheduler else {"n_workers": options.workers, "threads_per_worker": 1, "dashboard_address": None}
+    where = {"address": options.scheduler} if options.scheduler else {"n_workers": options.workers, "threads_per_worker": 1, "dashboard_address": None, "death_timeout": 300}
     try:
         with dask.distributed.Client(**where, set_as_default=True) as client:
             client.compute(stored(options, source, target, shape, kind), sync=True, retries=3)

@@ -23,6 +23,8 @@ from checking import ROOT, Cases, both_builds
 from hiding import ENTRY, FRAMES, Place, all_of, children, ffmpeg, is_hidden, left, video
 
 RECIPE = re.compile(r"(?m)^    (find in .*parallel .*--sshloginfile.*)$")
+# A picture by Dask may take so many seconds.
+SECONDS = 600
 
 
 def table(folder):
@@ -214,11 +216,15 @@ def by_dask(cases, place):
         most, killed, said = 0, None, []
         reader = threading.Thread(target=lambda: said.append(process.stdout.read()))
         reader.start()
+        ends = time.monotonic() + SECONDS
         while process.poll() is None:
-            if kill and not killed and (folder / "out.npy.part").exists():
+            if time.monotonic() > ends:
+                process.kill()
+                said.append(f"it had not ended after {SECONDS} seconds")
+            # (a block is written, so the workers have begun)
+            if kill and not killed and read(folder / "out.npy.part")[128:].strip(b"\0"):
                 workers = [int(it.parent.name) for it in pathlib.Path("/proc").glob("[0-9]*/cmdline") if b"spawn_main" in read(it) and is_below(int(it.parent.name), process.pid)]
-                if len(workers) > 1 and time.monotonic() > 0:
-                    time.sleep(0.6)
+                if len(workers) > 1:
                     killed = workers[-1]
                     with contextlib.suppress(OSError):
                         os.kill(killed, signal.SIGKILL)
