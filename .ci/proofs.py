@@ -20,6 +20,7 @@ from checking import ROOT, Cases, built, crates, says
 
 from changed import git, last_landed, old_files
 from processes import end_on_signals
+from program import shown
 from proving import After, Progress, all_below, prove_changed, run, weight, weights_of
 from workspace import PARTS, entries, is_program, keep_program, own_sources, product, room, with_those_below
 
@@ -112,7 +113,8 @@ def main():
     after += [After(it, weight(it) / 2, lambda it=it: second(cases, it)) for it in names if is_program(it)]
     after += [After(it, weight(it) / 5, lambda it=it: ask(cases, it)) for it in changed_crates()]
     progress = Progress(*weights_of(all_below(names)))
-    said = prove_changed(names, progress, after)
+    with shown(progress):
+        said = prove_changed(names, progress, after)
     for it in names:
         cases.count(f"== {it}", it in progress.done or product(it).is_file() and said is None, said or "")
     return cases.end()
