@@ -66,7 +66,7 @@ ENDED = re.compile(r"== (\w+(?:: its tests)?)(?:: passed)?$")
 PROGRESS, EVERY = re.compile(r"\d+:\d\d +[\d.]+ %"), 20
 TOLD = re.compile(r"rt: .*NOT PROVED|rt: .*FAILED|.*NOT REFUSED|.*FAILED")
 LOGS = ROOT / "out"
-# The sum of the files on which every part of `test` passed last, with nothing skipped.
+# The sum of the files on which every part of `test` passed last, with nothing skipped that can be installed.
 TESTED = LOGS / "tested"
 SAID = threading.Lock()
 
