@@ -261,7 +261,8 @@ def last_landed():
     """The commit that had landed last, and whether the kit here has the logic that proved it. Exits where that is no ancestor of this
     commit."""
     commit, logic = LANDED.read_text(encoding="utf-8").split()
-    if git("rev-parse", "--verify", "-q", "HEAD") and git("merge-base", "--is-ancestor", commit, "HEAD") is None:
+    # (where the history lacks it, all bugs are tried)
+    if git("cat-file", "-e", f"{commit}^{{commit}}") is not None and git("merge-base", "--is-ancestor", commit, "HEAD") is None:
         raise SystemExit(f"{LANDED.relative_to(ROOT)} names {commit}, which this commit doesn't follow: write there the last one that had landed when the work began")
     return commit, run_to_end(["rt", "version"]).stdout.split()[-1:] == [logic]
 
