@@ -61,6 +61,9 @@ elif form == "yolo":
         pathlib.Path(sys.argv[2], f"in_{n}.txt").write_text(f"0 {(l + r) / 2 / wide} {(t + b) / 2 / high} {(r - l) / wide} {(b - t) / high}\n")
 '''
 
+# A shell that starts a check in the background has SIGINT ignored, and what the check starts would ignore it too.
+signal.signal(signal.SIGINT, signal.default_int_handler)
+
 
 def ffmpeg(folder, words):
     """Runs ffmpeg in a folder on words without spaces in them."""
