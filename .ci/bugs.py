@@ -10,21 +10,17 @@ from functions import function_at, function_names, proof_folder
 
 # So many bugs are tried in one check: more would cost more to try again where one of them can't be read.
 MOST = 24
-# How a line of an edit begins that names a written answer which no longer fits: its file in the crate, and the goal.
-STALE = "stale: "
 
 
 @dataclasses.dataclass
 class Bug:
-    """A planted bug: its file, its pairs of old and new text by file, the function of each pair or None, what it makes stale of the written
-    answers, each by its file and goal, and its copy's proof folder.
+    """A planted bug: its file, its pairs of old and new text by file, the function of each pair or None, and its copy's proof folder.
 
     `folder` is False where the bug is tried in the function itself, None where the function has no proof files."""
 
     path: pathlib.Path
     pairs: list
     functions: list
-    stale: list = dataclasses.field(default_factory=list)
     folder: object = False
 
     @property
@@ -40,28 +36,11 @@ class Bug:
     def is_copied(self):
         return self.folder is not False
 
-    def stale_here(self):
-        """What it makes stale of the written answers, where it is planted: a copy has copies of them."""
-        return [(self.moved(file), goal) for file, goal in self.stale]
-
-    def moved(self, file):
-        """The path of a proof file of its function, as the copy has it."""
-        return file.replace(f"/{self.folder.name}/", f"/{self.copy}/") if self.folder else file
-
-    def note(self, file, goal):
-        """Adds to the edit that it makes an answer stale, of a file as the copy has it."""
-        line = f"{STALE}{file.replace(f'/{self.copy}/', f'/{self.folder.name}/') if self.folder else file} {goal}"
-        text = self.path.read_text(encoding="utf-8")
-        if line not in text.split("\n"):
-            self.path.write_text(f"{text.rstrip()}\n{line}\n", encoding="utf-8")
-
 
 def read(path, crate):
     """Reads an edit of a crate, or raises ValueError."""
-    file, old, pairs, stale = None, None, [], []
+    file, old, pairs = None, None, []
     for line in path.read_text(encoding="utf-8").split("\n"):
-        if line.startswith(STALE):
-            stale.append(tuple(line[len(STALE) :].split()))
         if line.startswith("file: "):
             file = line[len("file: ") :].strip()
         elif line.startswith("old: "):
@@ -71,7 +50,7 @@ def read(path, crate):
     texts = {file: (crate / file).read_text(encoding="utf-8") for file, _, _ in pairs}
     applied(dict(texts), pairs)
     places = [(file, function_at(texts[file], old)) for file, old, _ in pairs if old in texts[file]]
-    bug = Bug(path, pairs, [(file, it) if it else None for file, it in places], stale)
+    bug = Bug(path, pairs, [(file, it) if it else None for file, it in places])
     bug.folder = folder_of(bug, texts, crate)
     return bug
 

@@ -35,8 +35,7 @@ RUST_USE = re.compile(r"(?m)^ *(?:pub )?use ([\w:]+?)::(?:(\w+)|\{([^}]*)\});")
 ITEM = re.compile(r"(?ms)^(?:pub(?:\(\w+\))? )?(?:struct|enum|trait|type|const|union) (\w+).*?(?:^\}|;$)")
 # Proof files of one function, which nothing else cites.
 OF_ONE_FUNCTION = ("Answers.antt", "Invariants.antt", "Proof.antt")
-# (a line of an edit that names a stale answer says nothing of the bug)
-COMMENT = re.compile(r"(?m)^ *//.*$|^--.*$|^stale: .*\n?")
+COMMENT = re.compile(r"(?m)^ *//.*$|^--.*$")
 BODY = re.compile(r"(?m)^ *\{$|\{$")
 IS_PUBLIC = re.compile(r"(?m)^ *pub (?:const )?(?:unsafe )?(?:extern \"C\" )?fn ")
 

@@ -1,7 +1,7 @@
 #!/usr/bin/env python3
 """Tries the planted bugs, crates/*/must-fail/*.edit: the prover must refuse each at a goal of the function that it changes.
 
-    planted_bugs.py [CRATE..] [--only NAME] [--changed [COMMIT]] [--landing] [--once] [--list] [--compile] [--note]
+    planted_bugs.py [CRATE..] [--only NAME] [--changed [COMMIT]] [--landing] [--once] [--list] [--compile]
 
 A function's proof cites the contracts of others and not their bodies. So many bugs are tried in one check, and each is judged
 by the goals that stay open in its own function. Several bugs of one function are several copies of it, each with a name of its
@@ -9,10 +9,8 @@ own and with copies of its proof files. A method of a trait, a function that cal
 no copies: of these one bug is tried at a time, in the function itself.
 
 A written answer that no longer fits a goal is left out, and the check made again: that a goal has changed is no evidence that
-it doesn't hold. A line `stale: FILE GOAL` of an edit names such an answer, and --note writes these lines. With --changed and --landing it
-is left out at once. Without them each is found anew, so a line that isn't true is seen.
-What shows no goal so is tried by itself, in the function itself, and judged as `rt must-fail` does. What is then refused by a proof
-by hand alone is counted and said.
+it doesn't hold. What shows no goal so is tried by itself, in the function itself, and judged as `rt must-fail` does. What is
+then refused by a proof by hand alone is counted and said.
 
 The crates are proved first, where their cached proofs are not fresh, and are only read: each check runs in a room of its own.
 With --changed only those bugs are tried that a difference from a commit affects (the one of .ci/last_landed), as changed.py tells.
@@ -46,11 +44,8 @@ UNREADABLE = re.compile(r"is not in scope|has no field|is no name|operand is mis
 NO_FUNCTION = "no_such_function"
 # The sum of the crates' texts at which all planted bugs were refused last.
 REFUSED = ROOT / "out/planted_bugs_refused"
-# A check is made at most so many times, each without what the one before found stale, beside what the edits name.
+# A check is made at most so many times, each without what the one before found stale.
 MOST_CHECKS = 4
-# Whether an answer that is found stale is written into the edit, and whether those that edits name are left out at once. Where all bugs
-# are tried each is found anew: so a line that isn't true is seen.
-NOTES, TRUSTS_NOTES = False, False
 HARDLY = re.compile(r"(?:\./)?proofs/.*(?:has no field|is not in scope|has no `|was not admitted)")
 
 
@@ -104,9 +99,7 @@ def try_together(name, bugs, only):
     """Tries bugs in one check of these functions, or of the whole crate. Gives the goal of each that is refused, those that show
     none, and what the first check said with which texts."""
     crate = ROOT / "crates" / name
-    refused, left, answers, first = {}, bugs, collections.defaultdict(set), None
-    for file, goal in (it for bug in bugs for it in bug.stale_here() if TRUSTS_NOTES):
-        answers[file].add(goal)
+    refused, left, answers, first = {}, bugs, {}, None
     for _ in range(MOST_CHECKS):
         planted = plant(left, crate)
         for file, goals in answers.items():
@@ -126,9 +119,7 @@ def try_together(name, bugs, only):
         if not left or not stale:
             break
         for file, goal in stale:
-            answers[file].add(goal)
-            for bug in (it for it in bugs if NOTES and (len(bugs) == 1 or f"/{it.copy}/" in file)):
-                bug.note(file, goal)
+            answers.setdefault(file, set()).add(goal)
     return refused, left, first
 
 
@@ -199,18 +190,15 @@ def sum_of_crates():
 
 
 def main():
-    global NOTES, TRUSTS_NOTES
     asked = argparse.ArgumentParser(description=__doc__, formatter_class=argparse.RawDescriptionHelpFormatter)
     asked.add_argument("crates", nargs="*")
     asked.add_argument("--only", action="append", default=[], metavar="NAME")
     asked.add_argument("--changed", nargs="?", const="", default=None, metavar="COMMIT")
     asked.add_argument("--landing", action="store_true", help="those that a change since the last landing affects, and one in twenty of the others of public functions")
-    asked.add_argument("--note", action="store_true", help="writes into an edit which answers it makes stale")
     asked.add_argument("--once", action="store_true", help="tries none where all were refused at these texts before")
     asked.add_argument("--list", action="store_true", help="prints the bugs of each check, and tries none")
     asked.add_argument("--compile", action="store_true", help="compiles the bugs, and proves nothing")
     asked = asked.parse_args()
-    NOTES, TRUSTS_NOTES = asked.note, asked.landing or asked.changed is not None
     tries_all = not (asked.crates or asked.only or asked.changed is not None or asked.landing or asked.list or asked.compile)
     now = sum_of_crates() if tries_all else ""
     if asked.once and tries_all and REFUSED.is_file() and REFUSED.read_text(encoding="utf-8") == now:
