@@ -16,12 +16,16 @@ import tempfile
 
 from functions import function_names, proof_folder
 from processes import run_to_end
-from workspace import ROOT, crates, own_sources, with_those_below
+from workspace import PARTS, ROOT, crates, entries, own_sources, with_those_below
 
 # The last commit that had landed when the work began, and the kit that proved it.
 LANDED = ROOT / ".ci/last_landed"
 # Of the bugs of public functions that no change affects, CI tries one in so many.
 DRAWN = 20
+# Pages, and what is built around the library for C and the programs. No proof reads them, and no check that the gate alone runs.
+PAGES = re.compile(r"(?:docs|web|bindings|include|man)/.*|.*\.md|\.ci/last_landed|\.ci/checks/sentences\.py")
+# A crate's texts, which are compared by themselves, and its planted bugs.
+OF_A_CRATE = re.compile(rf"crates/\w+/(?:{'|'.join(PARTS)}|must-fail)/")
 WORDS = re.compile(r"[^\s(){}\[\],.;:`<>&|!?=]+")
 # What is called: a path before the name, or the point of a method.
 CALLED = re.compile(r"(\.|\b(?:\w+::)+|\b)(\w+)(?:::<[^;(]*>)?\(")
@@ -264,6 +268,36 @@ def last_landed():
     if git("cat-file", "-e", f"{commit}^{{commit}}") is not None and git("merge-base", "--is-ancestor", commit, "HEAD") is None:
         raise SystemExit(f"{LANDED.relative_to(ROOT)} names {commit}, which this commit doesn't follow: write there the last one that had landed when the work began")
     return commit, run_to_end(["rt", "version"]).stdout.split()[-1:] == [logic]
+
+
+@dataclasses.dataclass
+class SinceLanding:
+    """What differs from the last landed commit: the crates, with those above them, and whether more does than crates and pages."""
+
+    crates: list
+    has_more: bool
+
+
+def since(old, old_list, paths):
+    """What differs from an old tree: by the texts of its crates, its list of crates, and the paths of the files that differ."""
+    lines = {line.partition(":")[0].split()[0]: line for line in old_list.splitlines() if ":" in line}
+    now = {name: line for line, name, _, _ in entries()}
+    texts = {name: {it.relative_to(ROOT).as_posix(): it.read_text(encoding="utf-8") for it in own_sources(name)} for name in now}
+    was = lambda name: {path: text for path, text in old.items() if path.startswith(tuple(f"crates/{name}/{part}/" for part in PARTS))}
+    differ = {name for name, line in now.items() if lines.get(name) != line or texts[name] != was(name)}
+    more = [it for it in paths if it != "crates.txt" and not OF_A_CRATE.match(it) and not PAGES.fullmatch(it)]
+    return SinceLanding([name for name in now if differ & {*with_those_below(name)}], bool(more))
+
+
+@functools.cache
+def since_landing():
+    """What differs from the last landed commit. Where that can't be told it is all."""
+    commit, is_same_kit = last_landed()
+    old = old_files(commit) if is_same_kit else None
+    listed = (git("diff", "--name-only", "--no-renames", commit), git("ls-files", "--others", "--exclude-standard"))
+    if old is None or None in listed:
+        return SinceLanding([*crates()], True)
+    return since(old, git("show", f"{commit}:crates.txt") or "", "".join(listed).splitlines())
 
 
 def affected(bugs, commit):

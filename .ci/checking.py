@@ -1,4 +1,5 @@
 """What the checks share: counting cases, a copy of the repository to change, and what was built from it."""
+import concurrent.futures
 import contextlib
 import os
 import pathlib
@@ -80,6 +81,19 @@ class Cases:
         """Prints the last line of a check, and returns its status."""
         print(f"{self.passed} passed, {self.failed} failed, {self.skipped} skipped")
         return 1 if self.failed or not self.passed + self.skipped else 0
+
+
+def side_by_side(cases, checks):
+    """Makes checks by all processors. Each is a call that counts cases of its own, which are added."""
+
+    def counted(check):
+        own = Cases()
+        check(own)
+        return own
+
+    with concurrent.futures.ThreadPoolExecutor(len(os.sched_getaffinity(0))) as pool:
+        for own in pool.map(counted, checks):
+            cases.add(own)
 
 
 @contextlib.contextmanager

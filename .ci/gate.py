@@ -8,12 +8,13 @@
                                     BUGS=changed only those that a difference from the last landed commit affects)
     gate.py gate BUGS=landing       what .ci/run adds to `test`, over the proofs that it cached: the other crates and all tests
                                     proved, the second build, the planted bugs that a difference from the last landed commit
-                                    affects, and one in twenty of the other public functions' ones
+                                    affects, and one in twenty of the other public functions' ones. Where only crates and pages
+                                    differ from that commit, what goes over none of these crates is left out: it passed then
     gate.py check [CRATE=name]      proofs and tests of what has changed, over cached proofs: no planted bug is tried. With CRATE
                                     only of that crate and of what it depends on; it may also be the folder of a crate elsewhere
 
 Each part ends with 'N passed, N failed, N skipped'. All that it said is in the folder out/, and is shown where it fails. At the end
-come a table of the parts, what was skipped and for want of what, and then a line that adds them up. TERM, HUP and Ctrl-C end all
+come a table of the parts, what was skipped and for want of what, what failed, and then a line that adds them up. TERM, HUP and Ctrl-C end all
 parts.
 
 `make gate` and `make gate BUGS=changed` prove everything from nothing by `rt ci --anew`, on a copy of the repository without the
@@ -35,6 +36,8 @@ import threading
 import time
 
 from checking import COUNT, ONE_BUILD, ROOT, SKIPPED, VARIANT, crates, is_strict, says
+
+from changed import since_landing
 from needs import of_tests
 from packing import sum_of
 from processes import end_on_signals, run_to_end, started, workers
@@ -52,10 +55,18 @@ GATE_ALONE = (
 LANDING = "--landing"
 # This one makes a release over cached proofs, so the gate runs it in the repository.
 RELEASE = "release.py"
-# Each of these takes all processors by itself, and waits for processes of its own: so they go one after the other.
-IN_TURN = ("hide.py", "hide_phones.py", "hide_many.py")
+# By a check of GATE_ALONE: the crates that it goes over, with those below them. RELEASE packs pages too, and the others go over all.
+GOES_OVER = {
+    "layers.py": ("imgref_replay",),
+    "row_mover_privacy.py": ("row_mover",),
+    "retried_calls.py": ("imgref_run",),
+    "second_build.py": ("imgref_run", "imgref_frames"),
+    "strides.py": ("bench_strides",),
+}
+# Those of a group go one after the other: each takes all processors by itself, or builds what the one before built.
+IN_TURN = (("hide.py", "hide_phones.py", "hide_many.py"), ("c_library.py", "bindings.py"))
 # These time calls or the page, so they come last, with nothing beside them.
-TIMED = ("bindings.py", "web.py")
+TIMED = ("call_times.py", "web.py")
 # The crates that `test` proves, with those below them: the programs and the library for C.
 PRODUCT = ("imgref_run", "imgref_frames", "imgref_c")
 # What each takes from nothing on four processors, in minutes.
@@ -65,6 +76,8 @@ ENDED = re.compile(r"== (\w+(?:: its tests)?)(?:: passed)?$")
 # Proof progress, of which a line is shown now and then.
 PROGRESS, EVERY = re.compile(r"\d+:\d\d +[\d.]+ %"), 20
 TOLD = re.compile(r"rt: .*NOT PROVED|rt: .*FAILED|.*NOT REFUSED|.*FAILED")
+# So many of these lines of a part are told again at the end.
+MOST_TOLD = 20
 LOGS = ROOT / "out"
 # The sum of the files on which every part of `test` passed last, with nothing skipped that can be installed.
 TESTED = LOGS / "tested"
@@ -99,6 +112,8 @@ class Part:
     # (what it skipped, and what it left: each with its number and with what is lacking)
     lacked: list = dataclasses.field(default_factory=list)
     left: list = dataclasses.field(default_factory=list)
+    # (the lines that name what failed)
+    bad: list = dataclasses.field(default_factory=list)
     process: subprocess.Popen = None
 
     def run(self):
@@ -135,6 +150,7 @@ class Part:
             passed, failed, self.skipped = int(is_well), int(not is_well), 0
         self.passed, self.failed = passed, failed or int(not is_well)
         self.lacked, self.left = SKIPPED.findall("\n".join(lines)), VARIANT.findall("\n".join(lines))
+        self.bad = [it.strip() for it in lines if TOLD.match(it)] if self.failed else []
 
 
 def sessions():
@@ -177,14 +193,15 @@ def scripts(folder, top=ROOT, words=(), without=()):
 
 
 def cached_checks(without=()):
-    """The checks that go over cached proofs: those that run beside other parts, and those that time calls."""
+    """The checks that go over cached proofs: those that run beside other parts, and those that time calls or the page."""
     every = scripts(CHECKS / "proofs", without=without)
     return [it for it in every if it.name not in TIMED], [it for it in every if it.name in TIMED]
 
 
 def apart(parts):
-    """A line for each part, and one for all that go one after the other."""
-    return [[it for it in parts if it.name in IN_TURN], *([it] for it in parts if it.name not in IN_TURN)]
+    """A line for each part, and one for each group that goes one after the other."""
+    grouped = {name for group in IN_TURN for name in group}
+    return [*([it for it in parts if it.name in group] for group in IN_TURN), *([it] for it in parts if it.name not in grouped)]
 
 
 def sum_of_files():
@@ -205,6 +222,15 @@ def not_tested(*folders):
         return ()
     say("make test passed on these very files: what it runs over cached proofs isn't run again")
     return tuple(it.name for folder in folders for it in folder.glob("*.py") if it.name not in GATE_ALONE)
+
+
+def passed_at_landing(since):
+    """The checks of the gate alone that passed at the last landing on these very crates, where nothing else differs but pages."""
+    if since.has_more:
+        return ()
+    names = [it for it in GATE_ALONE if it != RELEASE and not {*since.crates} & {*GOES_OVER.get(it, since.crates)}]
+    say(f"these crates differ from the last landed commit: {', '.join(since.crates) or 'none'}. So these aren't run again: {', '.join(names) or 'none'}{'' if since.crates else ', and the proofs of tests'}")
+    return tuple(names)
 
 
 def side_by_side(lines):
@@ -274,14 +300,17 @@ def planted(only):
 
 
 def landing(parts, only):
-    """Runs what `test` doesn't, over the proofs that it cached."""
+    """Runs what `test` doesn't, over the proofs that it cached. Where only crates and pages differ from the last landed commit, what goes
+    over none of these crates passed then, and is left out."""
+    since = since_landing()
     proofs = Part("proofs", [sys.executable, str(ROOT / ".ci/proofs.py")], proofs=sum(1 + says(it, "#[test]") for it in crates()), nice=0)
-    tested = not_tested(CHECKS, CHECKS / "built", CHECKS / "proofs")
-    built = scripts(CHECKS / "built", words=[ONE_BUILD], without=(RELEASE, *tested))
+    without = (*not_tested(CHECKS, CHECKS / "built", CHECKS / "proofs"), *passed_at_landing(since))
+    built = scripts(CHECKS / "built", words=[ONE_BUILD], without=(RELEASE, *without))
     release = Part(RELEASE, [sys.executable, str(CHECKS / "built" / RELEASE)])
-    bugs, (cached, timed), beside = planted(only), cached_checks(without=tested), scripts(CHECKS, without=tested)
-    parts += [proofs, *built, bugs, *cached, release, *beside, *timed]
-    side_by_side([[proofs, [[bugs], [*cached, release], *apart(built)]], beside])
+    bugs, (cached, timed), beside = planted(only), cached_checks(without=without), scripts(CHECKS, without=without)
+    first = [proofs] if since.crates or since.has_more else []
+    parts += [*first, *built, bugs, *cached, release, *beside, *timed]
+    side_by_side([[*first, [[bugs], *apart(cached), *apart(built), [release]]], beside])
     side_by_side([timed])
 
 
@@ -296,7 +325,7 @@ def from_nothing(parts, only):
         bugs, tested = planted(only), not_tested(CHECKS, CHECKS / "proofs")
         (cached, timed), beside = cached_checks(without=tested), scripts(CHECKS, without=tested)
         parts += [of_ci, *built, proofs, bugs, *cached, release, *beside, *timed]
-        side_by_side([[of_ci, apart(built)], [proofs, [[bugs], [*cached, release]]], beside])
+        side_by_side([[of_ci, apart(built)], [proofs, [[bugs], *apart(cached), [release]]], beside])
         side_by_side([timed])
         say(f"\n{functions()} functions proved · {tests()} tests · {bugs.passed} planted bugs refused")
 
@@ -321,6 +350,12 @@ def table(parts, most, began):
     width = max(len(it.name) for it in parts)
     lines = [f"{it.name:{width}}  {minutes(it.seconds):>12}  {it.memory / 1e9:4.1f} GB  {it.passed:4} passed, {it.failed} failed, {it.skipped} skipped" for it in parts]
     return "\n".join(["", *lines, f"{'in all':{width}}  {minutes(time.monotonic() - began):>12}  {most / 1e9:4.1f} GB"])
+
+
+def failing(parts):
+    """What failed, part by part: the end of a long log is all that some people see."""
+    rows = [f"{it.name}: {line[:200]}" for it in parts if it.failed for line in it.bad[:MOST_TOLD] or ["its last lines are above"]]
+    return "\n".join(["", "Failed:", *rows]) if rows else ""
 
 
 def lacking(parts):
@@ -373,7 +408,7 @@ def work(way, only):
         WAYS[way](parts, only)
     passed, failed, skipped = (sum(getattr(it, what) for it in parts) for what in ("passed", "failed", "skipped"))
     say(table(parts, memory.most, began))
-    if said := lacking(parts):
+    for said in filter(None, (lacking(parts), failing(parts))):
         say(said)
     # (with CI=true only what this machine can't do is skipped, and it can't do it a second time either)
     if way == "test" and not failed and (not skipped or is_strict()) and files and files == sum_of_files():

@@ -37,6 +37,8 @@ from workspace import PARTS, ROOT, crates, room, with_those_below
 
 GOAL = re.compile(r"note: (?:\./)?(src/\S+?):(\d+):\d+: ")
 STALE = re.compile(r"(?:note: )?(?:\./)?(proofs/\S+/Answers\.antt):\d+:\d+: error: `([^`]*)`")
+# An answer or a lemma of a file of answers: whether it is public, and its name. And the words of a text.
+ANSWER, WORD = re.compile(r"(pub )?(\S+) : "), re.compile(r"[^\s(){}\[\],.;:]+")
 ERROR = re.compile(r"(?:\./)?(\S+?):\d+:\d+: error: (?:(`[^`]*`): )?(.*)")
 # An error of these kinds says that a text could not be read, where a bug that only makes a statement false reads well.
 UNREADABLE = re.compile(r"is not in scope|has no field|is no name|operand is missing|expected the end|cannot continue")
@@ -69,11 +71,14 @@ def goal_of(spans, lines):
     return None
 
 
-def without(text, goals):
-    """The answers of a file without those to these goals."""
-    for it in goals:
-        text = re.sub(rf"(?ms)^pub {re.escape(it)} :.*?(?=^pub |\Z)", "", text)
-    return text
+def without(text, names):
+    """The answers of a file without those of these names, and without what cites a lemma of the file that goes so."""
+    head, *items = re.split(r"(?m)^(?=(?:pub )?\S+ : )", text)
+    gone, lemmas = {*names}, set()
+    while left := [it for it in items if ANSWER.match(it)[2] in gone or lemmas & {*WORD.findall(it)}]:
+        items = [it for it in items if it not in left]
+        lemmas |= {name for public, name in map(lambda it: ANSWER.match(it).groups(), left) if not public}
+    return "".join([head, *items])
 
 
 def is_unreadable(line, texts):
@@ -183,6 +188,13 @@ def all_bugs(names, only):
     return good, bad
 
 
+def told(found):
+    """Prints what is said of each bug as soon as it is judged, and gives whether it is refused."""
+    for is_refused, line in found:
+        print(line, flush=True)
+        yield is_refused
+
+
 def sum_of_crates():
     """The sum of all texts of the crates, the planted bugs with them, and of the toolchain's version."""
     folders = [ROOT / "crates" / name / part for name in crates() for part in (*PARTS, "must-fail")]
@@ -226,10 +238,9 @@ def main():
         # (the longest first)
         checks.sort(key=lambda it: -len(it[1]) * (1 + len(with_those_below(it[0]))))
         way = compile_all if asked.compile else try_all
-        for it in concurrent.futures.as_completed([pool.submit(lambda *it: [*way(*it)], *it) for it in checks]):
-            for is_refused, line in it.result():
-                passed, failed = passed + is_refused, failed + (not is_refused)
-                print(line, flush=True)
+        for it in concurrent.futures.as_completed([pool.submit(lambda *it: [*told(way(*it))], *it) for it in checks]):
+            refused = it.result()
+            passed, failed = passed + sum(refused), failed + len(refused) - sum(refused)
     print(f"{passed} passed, {failed} failed")
     if tries_all and passed and not failed:
         REFUSED.parent.mkdir(exist_ok=True)

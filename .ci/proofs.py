@@ -18,11 +18,11 @@ import tempfile
 
 from checking import ROOT, Cases, built, crates, says
 
-from changed import git, last_landed, old_files
+from changed import since_landing
 from processes import end_on_signals
 from program import shown
 from proving import After, Progress, all_below, prove_changed, run, weight, weights_of
-from workspace import PARTS, entries, is_program, keep_program, own_sources, product, room, with_those_below
+from workspace import is_program, keep_program, product, room
 
 # What a crate's last line says, and words that it may not have: what a verdict refuses.
 PROVED, REFUSED = re.compile(r"^logic=proved .*$"), ("foreign", "may-abort", "partial", "may-wait", "may-serve", "hides", "bugs")
@@ -41,20 +41,6 @@ def lines_of(command, at):
     lines = []
     status = run(command, at, lines.append)
     return [it.rstrip("\n") for it in lines], status
-
-
-def changed_crates():
-    """The crates that differ from the last landed commit, and those above them. All, where that can't be told."""
-    commit, is_same_kit = last_landed()
-    old = old_files(commit) if is_same_kit else None
-    if old is None:
-        return [*crates()]
-    lines = {line.partition(":")[0].split()[0]: line for line in (git("show", f"{commit}:crates.txt") or "").splitlines() if ":" in line}
-    now = {name: line for line, name, _, _ in entries()}
-    texts = {name: {it.relative_to(ROOT).as_posix(): it.read_text(encoding="utf-8") for it in own_sources(name)} for name in now}
-    was = lambda name: {path: text for path, text in old.items() if path.startswith(tuple(f"crates/{name}/{part}/" for part in PARTS))}
-    differ = {name for name, line in now.items() if lines.get(name) != line or texts[name] != was(name)}
-    return [name for name in now if differ & {*with_those_below(name)}]
 
 
 def ask(cases, name):
@@ -111,7 +97,7 @@ def main():
     cases, names = Cases(), [*crates()]
     after = [After(it, weight(it), lambda it=it: test(cases, it)) for it in names if says(it, "#[test]")]
     after += [After(it, weight(it) / 2, lambda it=it: second(cases, it)) for it in names if is_program(it)]
-    after += [After(it, weight(it) / 5, lambda it=it: ask(cases, it)) for it in changed_crates()]
+    after += [After(it, weight(it) / 5, lambda it=it: ask(cases, it)) for it in since_landing().crates]
     progress = Progress(*weights_of(all_below(names)))
     with shown(progress):
         said = prove_changed(names, progress, after)

@@ -4,11 +4,7 @@
 
 Prints a line for each call, size of a pixel and side: the nanoseconds a pixel here, and this time divided by that of the faster
 one of the other two. The three are timed by turns, and the least time of each counts. What they leave is compared first.
-
-IMGREF_BENCH is a library of crates/bench_exports: of the blur, which the package for Python doesn't have.
 """
-import ctypes
-import os
 import sys
 import timeit
 
@@ -25,9 +21,6 @@ TILES, MEANS = (2, 8, 31), "means of "
 RADII, BLURS = (2, 8), "blur of radius "
 # How often the three are timed by turns (large pictures not so often), and how many pixels they go over each time at least.
 TURNS, FEW_TURNS, AT_ONCE = 15, 5, 2_000_000
-
-
-BENCH = ctypes.CDLL(os.environ["IMGREF_BENCH"]) if "IMGREF_BENCH" in os.environ else None
 
 
 def picture(side, channels, kind, seed):
@@ -53,7 +46,7 @@ def jobs_of_values(side):
     yield "histogram", lambda it: numpy.asarray(it).ravel().tolist(), lambda: histogram(image), lambda: cv2.calcHist([grey], [0], None, [256], [0, 256]), lambda: numpy.bincount(grey.ravel(), minlength=256)
     # (OpenCV spreads from the least value on, so only the order of the values is the same)
     yield "equalize", lambda it: (numpy.diff(numpy.asarray(it).ravel()[numpy.argsort(grey.ravel(), kind="stable")].astype(int)) >= 0).all(), lambda: equalize(image), lambda: cv2.equalizeHist(grey), None
-    yield "summed areas", lambda it: numpy.asarray(it)[-side:, -side:].astype(float), lambda: integral(image), lambda: cv2.integral(grey, sdepth=cv2.CV_64F), lambda: grey.cumsum(0, dtype=numpy.uint64).cumsum(1)
+    yield "integral image", lambda it: numpy.asarray(it)[-side:, -side:].astype(float), lambda: integral(image), lambda: cv2.integral(grey, sdepth=cv2.CV_64F), lambda: grey.cumsum(0, dtype=numpy.uint64).cumsum(1)
     # (OpenCV gives the background one label, so only the number of regions of ones can be compared)
     yield "components", lambda it: len({*numpy.unique(numpy.asarray(it[1])[ones > 0]).tolist()}), lambda: components(binary), lambda: cv2.connectedComponents(ones, connectivity=4), None
 
@@ -83,15 +76,6 @@ def jobs(side, channels, kind):
         edge = side // tile * tile
         return lambda: image.mosaic_means((0, 0, edge, edge), tile, tile)
 
-    def blurred(radius):
-        width, stride = side * channels, (side + 8) * channels
-        # (these pointers keep what they point to)
-        cells, copy, sums = (it.ctypes.data_as(ctypes.c_void_p) for it in (ours, numpy.empty(stride * side, numpy.uint8), numpy.empty(width, numpy.uint32)))
-        size = ctypes.c_size_t
-        layout = cells, size(stride * (side - 1) + width), size(width), size(side), size(stride)
-        words = *layout, size(channels), size(radius), copy, size(stride * side), sums, size(width)
-        return lambda: BENCH.bench_blur(*words)
-
     whole, inside = side * side, half * half
     yield "a quarter turn", whole, lambda: given.turn_into(image, "right"), lambda: cv2.rotate(source, cv2.ROTATE_90_CLOCKWISE, a), lambda: numpy.copyto(b, numpy.rot90(source, -1))
     yield "a half turn", whole, lambda: given.turn_into(image, "half"), lambda: cv2.rotate(source, cv2.ROTATE_180, a), lambda: numpy.copyto(b, source[::-1, ::-1])
@@ -101,9 +85,9 @@ def jobs(side, channels, kind):
     yield "mosaic of 8 by 8", whole, lambda: image.mosaic(image.whole, 8, 8), shrunk, lambda: numpy.copyto(b, b[::8, ::8].repeat(8, 0).repeat(8, 1))
     for tile in TILES:
         yield f"{MEANS}{tile} by {tile}", (side // tile * tile) ** 2, means(tile), averaged(tile), None
-    for radius in RADII if kind == numpy.uint8 and BENCH else ():
+    for radius in RADII if kind == numpy.uint8 else ():
         across = 2 * radius + 1
-        yield f"{BLURS}{radius}", whole, blurred(radius), lambda across=across: cv2.blur(a, (across, across), a), None
+        yield f"{BLURS}{radius}", whole, lambda radius=radius: image.blur(image.whole, radius), lambda across=across: cv2.blur(a, (across, across), a), None
     yield "fill a window", inside, lambda: image.fill(window, value), lambda: cv2.rectangle(a, window, colour, -1), lambda: b.__setitem__(part, value)
     yield "copy a window", inside, lambda: image.copy_window(window, shown), lambda: cv2.copyTo(source[part], None, a[part]), lambda: b.__setitem__(part, source[part])
     yield "move a window", inside, lambda: image.move_window(window, target), None, lambda: b.__setitem__(moved, b[part])

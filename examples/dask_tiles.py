@@ -3,11 +3,12 @@
 
     python3 examples/dask_tiles.py in.npy out.npy means 16,16
     python3 examples/dask_tiles.py in.npy out.npy blur 5 --scheduler tcp://10.0.0.1:8786
-    python3 examples/dask_tiles.py in.zarr out.zarr mosaic 8,8 --block 2048
+    python3 examples/dask_tiles.py in.npy out.zarr mosaic 8,8 --block 2048
 
 A picture is a file of NumPy (.npy) or a folder of zarr, of two dimensions and with 8 or 16 bits without a sign. Each block goes through
 imgref_frames, which is proved, and the result is that of one run over all. For a blur each block has a border of its neighbours
-(map_overlap). A worker that ends is no loss: Dask does its blocks again, and a block is written by the same bytes.
+(map_overlap). A worker that ends is no loss: Dask does its blocks again, and a block is written by the same bytes. An output of zarr
+has the blocks as its chunks.
 
 Without --scheduler the workers are processes of this machine. Else each of them needs imgref_frames in its PATH, and the files under
 the same names. The output gets its name once all of it is written.
@@ -28,6 +29,7 @@ except ImportError as why:
 
 BUILT = pathlib.Path(__file__).resolve().parent.parent / "crates/imgref_frames/out/imgref_frames"
 EDITS = ("mosaic", "means", "blur")
+ENDINGS = (".npy", ".zarr")
 
 
 class File:
@@ -36,20 +38,23 @@ class File:
     def __init__(self, path):
         self.path = os.path.abspath(path)
 
+    def is_zarr(self):
+        return self.path.endswith((".zarr", ".zarr.part"))
+
     def opened(self, mode):
-        if self.path.endswith((".zarr", ".zarr.part")):
+        if self.is_zarr():
             import zarr
 
-            return zarr.open(self.path, mode=mode)
+            return zarr.open_array(self.path, mode=mode)
         return numpy.lib.format.open_memmap(self.path, mode=mode)
 
     def create(self, like):
         """Makes the file, of the same size and kind as another array, in blocks of a size."""
         shape, kind, block = like
-        if self.path.endswith(".zarr.part"):
+        if self.is_zarr():
             import zarr
 
-            zarr.open(self.path, mode="w", shape=shape, dtype=kind, chunks=(block, block))
+            zarr.open_array(self.path, mode="w", shape=shape, dtype=kind, chunks=(block, block))
         else:
             numpy.lib.format.open_memmap(self.path, mode="w+", dtype=kind, shape=shape).flush()
 
@@ -82,7 +87,7 @@ def edited(block, words):
 def parsed():
     parser = argparse.ArgumentParser(description=__doc__, formatter_class=argparse.RawDescriptionHelpFormatter)
     parser.add_argument("input", help="a picture: .npy, or a folder .zarr")
-    parser.add_argument("output", help="the picture that is written, with the same ending")
+    parser.add_argument("output", help="the picture that is written: .npy or .zarr, of any input")
     parser.add_argument("edit", choices=EDITS)
     parser.add_argument("value", help="the tiles of a mosaic or of means, as 16,16; the radius of a blur, as 5")
     parser.add_argument("--block", type=int, default=2048, metavar="N", help="a block has N by N pixels: 2048")
@@ -117,21 +122,31 @@ def stored(options, source, target, shape, kind):
     return dask.array.store(made, target, lock=False, compute=False)
 
 
+def files_of(options):
+    """The input, and the file that gets the name of the output once all of it is written."""
+    if not all(pathlib.Path(it).suffix in ENDINGS for it in (options.input, options.output)):
+        sys.exit("dask_tiles: the input and the output are .npy or .zarr")
+    source, target = File(options.input), File(f"{os.path.abspath(options.output)}.part")
+    if source.is_zarr() or target.is_zarr():
+        try:
+            import zarr as _
+        except ImportError as why:
+            sys.exit(f"{why}: apt-get install python3-zarr")
+    return source, target
+
+
 def main():
     options = parsed()
     try:
         import dask.distributed
     except ImportError as why:
         sys.exit(f"{why}: apt-get install python3-dask python3-distributed")
-    ending = pathlib.Path(options.input).suffix
-    if ending not in (".npy", ".zarr") or pathlib.Path(options.output).suffix != ending:
-        sys.exit("dask_tiles: the input and the output are both .npy, or both .zarr")
+    source, target = files_of(options)
     if options.block < 1 or os.path.exists(options.output):
         sys.exit(f"dask_tiles: {options.output} is there already" if options.block > 0 else "dask_tiles: a block has a pixel at least")
     depth_of(options)
     if not options.scheduler and not shutil.which("imgref_frames") and not BUILT.exists():
         sys.exit("dask_tiles: imgref_frames isn't in the PATH: install the package imgref-tools, or type make frames")
-    source, target = File(options.input), File(f"{options.output}.part")
     try:
         picture = source.opened("r")
     except (OSError, ValueError) as why:

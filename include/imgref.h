@@ -60,7 +60,7 @@ typedef uint32_t imgref_status;
 #define IMGREF_NO_TILE ((imgref_status)5)        /* there is no tile of that number, or a tile would have no pixel */
 #define IMGREF_NO_TURN ((imgref_status)6)        /* there is no turn of that number */
 #define IMGREF_TOO_LARGE ((imgref_status)7)      /* a sum might not fit its number */
-#define IMGREF_NO_ROOM ((imgref_status)8)        /* a room has fewer numbers than there are places */
+#define IMGREF_NO_ROOM ((imgref_status)8)        /* a work buffer is smaller than the call needs */
 
 /* A turn: how many quarters, clockwise. After IMGREF_RIGHT the first row is the last column, and after IMGREF_LEFT it is the
  * first column, from the bottom. */
@@ -212,6 +212,24 @@ IMGREF_CALLS(u64, uint64_t)
 IMGREF_MEANS(u8, uint8_t)
 IMGREF_MEANS(u16, uint16_t)
 #undef IMGREF_MEANS
+
+/* Blurs of images of bytes:
+ *
+ * imgref_u8_blur    Each pixel of the window becomes the mean of the box around it, rounded to the nearest number: a half goes up.
+ *                   Each of its `channels` cells is a mean of its own. The box has `across` pixels on the left and on the right,
+ *                   and `down` above and below. What is outside the window doesn't count, so boxes are cut at its edges. Sizes,
+ *                   the window and the box are counted in pixels, as in fill_pixels. `copy` and `sums` are work buffers, and
+ *                   what they have then means nothing. NOT_AN_IMAGE (also of pixels with another number of cells), WINDOW_OUTSIDE,
+ *                   TOO_LARGE (`across` or `down` is 2^15 or more), NO_ROOM.
+ * imgref_blur_room  How large these are for a window: so many bytes for `copy`, and so many numbers for `sums`. `copy` has
+ *                   the cells from the window's first to its last, and `sums` a number for each cell of its rows. NOT_AN_IMAGE,
+ *                   WINDOW_OUTSIDE.
+ */
+imgref_status imgref_blur_room(size_t len, size_t width, size_t height, size_t stride, size_t channels, imgref_rect window,
+                               size_t *copy_len, size_t *sums_len);
+imgref_status imgref_u8_blur(uint8_t *cells, size_t len, size_t width, size_t height, size_t stride, size_t channels,
+                             imgref_rect window, size_t across, size_t down, uint8_t *copy, size_t copy_len, uint32_t *sums,
+                             size_t sums_len);
 
 /* Values and sums of an image of bytes:
  *

@@ -373,6 +373,24 @@ public:
         detail::done(detail::mosaic_means<sizeof(cell)>(written(), len_, pixels_of(width_, channels), height_, stride_, channels, window, tile_width, tile_height));
     }
 
+    // Each pixel of the window becomes the mean of the box around it, rounded to the nearest number. The
+    // box has `across` pixels on the left and on the right, and `down` above and below, or `radius` on each
+    // side. It is cut at the window's edges. Pixels have that number of channels, each a mean of its own,
+    // and the window and the box are counted in pixels. Only for bytes. Allocates a copy of the window, and
+    // a number for each element of a row.
+    void blur(const rect &window, std::size_t across, std::size_t down, std::size_t channels = 1) const {
+        static_assert(std::is_same_v<value_type, std::uint8_t>, "only bytes are blurred");
+        const std::size_t width = pixels_of(width_, channels);
+        std::size_t bytes = 0, numbers = 0;
+        detail::done(imgref_blur_room(len_, width, height_, stride_, channels, window, &bytes, &numbers));
+        // (with one more, since no pointer may be null)
+        const std::unique_ptr<std::uint8_t[]> copy(new std::uint8_t[bytes + 1]);
+        const std::unique_ptr<std::uint32_t[]> sums(new std::uint32_t[numbers + 1]);
+        detail::done(imgref_u8_blur(written(), len_, width, height_, stride_, channels, window, across, down, copy.get(), bytes, sums.get(), numbers));
+    }
+    void blur(const rect &window, std::size_t radius) const { blur(window, radius, radius); }
+    void blur(std::size_t radius) const { blur(whole(), radius); }
+
     // How many pixels have each value. Only for unsigned pixels of one and of two bytes.
     std::vector<std::uint64_t> histogram() const {
         static_assert(std::is_same_v<value_type, std::uint8_t> || std::is_same_v<value_type, std::uint16_t>, "no table has a count for each of these values");
@@ -646,6 +664,9 @@ public:
     void move(const rect &from, const rect &to) const { elements_.move(in_elements(from), in_elements(to)); }
     void mosaic(const rect &window, std::size_t tile_width, std::size_t tile_height) const { elements_.mosaic_pixels(N, window, tile_width, tile_height); }
     void mosaic_means(const rect &window, std::size_t tile_width, std::size_t tile_height) const { elements_.mosaic_means(N, window, tile_width, tile_height); }
+    void blur(const rect &window, std::size_t across, std::size_t down) const { elements_.blur(window, across, down, N); }
+    void blur(const rect &window, std::size_t radius) const { blur(window, radius, radius); }
+    void blur(std::size_t radius) const { blur(whole(), radius); }
     void turn_into(const colour_view<element, N> &target, imgref::turn by) const { elements_.turn_into(target.elements_, by, N); }
     void transpose_into(const colour_view<element, N> &target) const { elements_.transpose_into(target.elements_, N); }
     void turn(imgref::turn by) const { elements_.turn(by, N); }

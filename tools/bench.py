@@ -257,11 +257,8 @@ def others():
     shutil.rmtree(OUT / "package", ignore_errors=True)
     with zipfile.ZipFile(python_package.build(python)) as wheel:
         wheel.extractall(OUT / "package")
-    if built("bench_exports"):
-        raise Failure("what is timed is not proved")
-    command(*compiler(), "-shared", "-o", OUT / "libbench.so", "-Wl,--whole-archive", product("bench_exports"), "-Wl,--no-whole-archive", *toolchain())
     before = os.getloadavg()[0]
-    ran = run_to_end([python, "-B", ROOT / "bench/beside.py"], env=os.environ | {"PYTHONPATH": str(OUT / "package"), "IMGREF_BENCH": str(OUT / "libbench.so")})
+    ran = run_to_end([python, "-B", ROOT / "bench/beside.py"], env=os.environ | {"PYTHONPATH": str(OUT / "package")})
     if ran.returncode:
         raise Failure(f"bench/beside.py failed:\n{ran.stdout}{ran.stderr}")
     first, *lines = (it.split("\t") for it in ran.stdout.splitlines())

@@ -29,6 +29,7 @@ MAN = ROOT / "man"
 # imgref-hide: its modules, those of the examples that it shares, and what completes its words in a shell.
 HIDE = ROOT / "programs"
 SHARED = ("boxes.py", "detect_faces.py", "detect_people.py", "detecting.py", "review.py", "y4m.py")
+PAGES = ("HIDE.md", "FRAMES.md", "SCRIPT.md")
 COMPLETIONS = {"share/bash-completion/completions/imgref-hide": "imgref-hide.bash", "share/zsh/site-functions/_imgref-hide": "_imgref-hide"}
 OUT = ROOT / "out/c"
 # The number that changes where a built caller has to be built again.
@@ -147,9 +148,10 @@ def installed():
 
 
 def hiding():
-    """The files of imgref-hide, by their paths below a prefix."""
+    """The files of imgref-hide and the pages of the programs, by their paths below a prefix."""
     files = {"bin/imgref-hide": HIDE / "imgref-hide"} | {path: HIDE / "completions" / name for path, name in COMPLETIONS.items()}
     files |= {f"share/imgref/programs/imgref_hide/{it.name}": it for it in sorted((HIDE / "imgref_hide").glob("*.py"))}
+    files |= {f"share/doc/imgref/{it}": ROOT / "docs" / it for it in PAGES}
     return files | {f"share/imgref/examples/{it}": ROOT / "examples" / it for it in SHARED}
 
 

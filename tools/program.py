@@ -86,7 +86,7 @@ def built(*names):
         return 0
     progress = Progress(*weights_of(all_below(names)))
     progress.done |= {it for it in all_below(names) if it not in left}
-    minutes = max(round(progress.left() / 60 * max(4 / processors(), 1)), 1)
+    minutes = max(round(progress.left() / 60), 1)
     say(f"{len(left)} of {len(all_below(names))} crates are proved and built now: {', '.join(left)}.")
     say(f"That takes about {minutes} minute{'s' * (minutes > 1)} on a machine with {processors()} processors, and nothing where no source has changed since.")
     with shown(progress):

@@ -12,20 +12,36 @@ import threading
 import time
 
 from processes import started
-from workspace import ROOT, crates, is_fresh, is_library, is_program, keep, own_sources, product, room, with_those_below
+from workspace import ROOT, crates, is_fresh, is_library, is_program, keep, own_sources, product, proved_once, room, with_those_below
 
 # What the prover says of how far it is in a crate.
 SO_FAR = re.compile(r"so far: (\d+) of (\d+) functions checked")
 # A crate of this weight gains by jobs, also while others are proved: a proof keeps the jobs that it began with.
 LARGE, MOST_JOBS = 30, 4
-# By how much a proof is faster by two jobs or by four.
-FASTER = {1: 1.0, 2: 1.5, 3: 1.8, 4: 2.0}
+# By how much a crate's own proofs are faster by so many jobs, and what a job reads of a crate below, of the seconds of its proofs.
+FASTER, LOADED = {1: 1.0, 2: 1.5, 3: 1.65, 4: 1.75}, 0.05
 # A chain of crates counts as long from this share of the longest on. What is in no long chain gives way.
 LONG, GIVES_WAY = 0.85, 10
 
 
+@dataclasses.dataclass(frozen=True)
+class Work:
+    """What a crate's proof takes, roughly in seconds of one processor: its own, and what each job reads of the crates below."""
+
+    own: float
+    loads: float
+
+    def alone(self, jobs):
+        """The seconds that pass, with a processor for each job."""
+        return self.loads + self.own / FASTER[jobs]
+
+    def whole(self, jobs):
+        """The seconds of all processors."""
+        return self.own + jobs * self.loads
+
+
 def weight(name):
-    """What a crate's proof takes, roughly in seconds of one processor: it reads the libraries, and then goes by lines."""
+    """What a crate's own proofs take, roughly in seconds of one processor: they go by lines."""
     files = [*own_sources(name)]
     count = lambda end: sum(it.read_bytes().count(b"\n") for it in files if it.name.endswith(end))
     code = count(".rt") - count("tests.rt")
@@ -34,6 +50,8 @@ def weight(name):
 
 # A share that the weights don't move grows so many times more slowly than one that they do.
 CREEPS = 4
+# So many seconds pass for one of a plan before anything is learnt, and that counts as much as so many seconds of a plan.
+PACE, KNOWN = 1.3, 60
 # In the log of proofs, the name of a line that says how many processors were busy.
 CORES = "cores"
 
@@ -41,17 +59,18 @@ CORES = "cores"
 class Progress:
     """The progress of the proofs, by what the prover said, and how long they still take.
 
-    What is left is told from the crates' weights. How many seconds a unit of weight takes on this machine is learnt from the
-    crates that are done."""
+    What is left is told by a plan: each crate goes on once those below it are done, and all that go on share the processors. How many
+    seconds pass for one of the plan is learnt from what is done of it."""
 
-    def __init__(self, weights, below, clock=time.monotonic):
-        self.weights, self.below, self.clock = weights, below, clock
+    def __init__(self, works, below, clock=time.monotonic, count=None):
+        self.works, self.below, self.clock, self.count = works, below, clock, count or processors()
         self.began, self.functions, self.done, self.begun, self.log = clock(), {}, set(), {}, []
-        self.jobs, self.told, self.asked, self.learnt = {}, 0.0, 0.0, [0.0, 0.0]
+        self.jobs, self.told, self.asked, self.planned, self.last = {}, 0.0, 0.0, None, 0.0
 
-    def begin(self, name, jobs=1):
+    def begin(self, name, jobs=None):
         self.keep(name, "begins")
-        self.jobs[name] = jobs
+        if jobs:
+            self.jobs[name] = jobs
         self.functions.setdefault(name, (0, 0))
         self.begun.setdefault(name, self.clock())
 
@@ -64,41 +83,56 @@ class Progress:
 
     def end(self, name):
         self.keep(name, "ends")
-        if name in self.begun:
-            self.learnt[0] += self.clock() - self.begun[name]
-            self.learnt[1] += self.alone(name)
         self.done.add(name)
 
     def keep(self, name, line):
         """Keeps what was said, with the second and the crate."""
         self.log.append(f"{self.clock() - self.began:.1f}\t{name}\t{line}")
 
-    def alone(self, name):
-        """The seconds that a crate's proof takes by its weight and its jobs."""
-        jobs = self.jobs.get(name, MOST_JOBS if self.weights[name] > LARGE else 1)
-        return self.weights[name] / FASTER[min(jobs, MOST_JOBS)]
+    def guessed_jobs(self, name):
+        """The jobs of a proof, or what they will be, roughly."""
+        return min(self.jobs.get(name, 2 if self.works[name].own > LARGE else 1), MOST_JOBS)
+
+    def part(self, name):
+        """The share of a crate's proof that is done."""
+        if name in self.done or name not in self.begun:
+            return float(name in self.done)
+        work, (checked, of) = self.works[name], self.functions[name]
+        alone = work.alone(self.guessed_jobs(name))
+        if checked:
+            return (work.loads + 0.9 * (alone - work.loads) * checked / of) / alone
+        # (what it loads, and its first function, are told by no line)
+        return min((self.clock() - self.begun[name]) / (alone * self.pace()), work.loads / alone + 0.1)
 
     def pace(self):
-        """How many seconds pass for one that the weights tell, as far as that is learnt."""
-        return (self.learnt[0] + 60) / (self.learnt[1] + 60)
+        """How many seconds pass for one of the plan, as far as that is learnt."""
+        passed, done = self.clock() - self.began, (self.planned or 0.0) - self.last
+        return (passed + KNOWN * PACE) / (max(done, 0.0) + KNOWN)
 
-    def left_of(self, name):
-        """The seconds that are left of a crate."""
-        if name in self.done:
-            return 0.0
-        whole = self.alone(name) * self.pace()
-        if name not in self.begun:
-            return whole
-        (checked, of), seconds = self.functions[name], self.clock() - self.begun[name]
-        by_functions = whole * (1 - checked / of) if of else whole
-        return max(min(whole - seconds, by_functions), 0.1 * whole)
+    def plan(self):
+        """The seconds that are left by the plan."""
+        jobs = {name: self.guessed_jobs(name) for name in self.works}
+        most = {name: work.whole(jobs[name]) / work.alone(jobs[name]) for name, work in self.works.items()}
+        left = {name: (1 - self.part(name)) * work.whole(jobs[name]) for name, work in self.works.items() if name not in self.done}
+        seconds = 0.0
+        while left:
+            ready = [name for name in left if not any(it in left for it in self.below[name])]
+            ready = sorted(ready, key=lambda it: (it not in self.begun, -self.works[it].own))[: self.count]
+            share = min(1.0, self.count / sum(most[it] for it in ready))
+            step = min(left[it] / (most[it] * share) for it in ready)
+            seconds += step
+            for it in ready:
+                left[it] -= step * most[it] * share
+                if left[it] < 1e-6:
+                    del left[it]
+        return seconds
 
     def left(self):
-        """The seconds that are left: those of the longest chain of crates, each of which waits for the one before it."""
-        found = {}
-        for name in self.weights:
-            found[name] = self.left_of(name) + max((found[it] for it in self.below[name] if it in found), default=0)
-        return max(found.values(), default=0.0)
+        """The seconds that are left."""
+        self.last = self.plan()
+        if self.planned is None:
+            self.planned = self.last
+        return self.last * self.pace()
 
     def share(self):
         """How much is done, from 0 to 1. It never falls, and where less is told than before, it grows by a part of what is left."""
@@ -148,10 +182,10 @@ def with_jobs(command, jobs):
 
 
 def chains(names):
-    """The weight of the longest chain of crates from each of these on, itself the first."""
-    found, below = {}, crates()
+    """The seconds of the longest chain of crates from each of these on, itself the first."""
+    found, (works, _), below = {}, weights_of(names), crates()
     for name in sorted(names, key=lambda it: -len(with_those_below(it))):
-        found[name] = weight(name) + max((found[it] for it in found if name in below[it]), default=0)
+        found[name] = works[name].alone(2) + max((found[it] for it in found if name in below[it]), default=0)
     return found
 
 
@@ -164,11 +198,13 @@ def work_on(name, jobs, is_long, progress):
         progress.hear(name, line)
 
     progress.begin(name, jobs)
-    with room(name) as made:
-        command = with_jobs(command_of(name), jobs)
-        if run(command if is_long else ["nice", "-n", str(GIVES_WAY), *command], made, hear):
-            raise Failed(name, "".join(lines))
-        keep(made, name)
+    with proved_once(name) as is_proved:
+        if not is_proved:
+            with room(name) as made:
+                command = with_jobs(command_of(name), jobs)
+                if run(command if is_long else ["nice", "-n", str(GIVES_WAY), *command], made, hear):
+                    raise Failed(name, "".join(lines))
+                keep(made, name)
     progress.end(name)
 
 
@@ -220,8 +256,11 @@ def jobs_of(name, is_long, idle, ready):
 
 
 def weights_of(names):
+    """What the proof of each of these crates takes, and the crates that it names."""
     all_of_them = crates()
-    return {it: weight(it) for it in names}, {it: all_of_them[it] for it in names}
+    own = {it: weight(it) for it in all_below(names)}
+    works = {name: Work(own[name], LOADED * sum(own[it] for it in with_those_below(name)[:-1])) for name in names}
+    return works, {it: all_of_them[it] for it in names}
 
 
 def all_below(names):

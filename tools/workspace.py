@@ -51,7 +51,7 @@ KITS, LOGIC = ("13b", "13f"), "dac8208d650f15bf"
 def need_rattle():
     """Ends this tool with a line where there is no `rt`, and warns of another kit."""
     if not shutil.which("rt"):
-        sys.exit("Rattle is needed, and there is no `rt` on PATH. README.md, 'Without Rattle', says what works without it.")
+        sys.exit("Rattle is needed, and there is no `rt` on PATH. README.md, 'Install', says what works without it.")
     kit = pathlib.Path(shutil.which("rt")).resolve().parent.parent / "KIT-ID"
     said = kit.read_text(encoding="utf-8").strip() if kit.is_file() else ""
     if said and said.split()[-1] != LOGIC:
@@ -166,6 +166,17 @@ def held(folder):
         yield
     finally:
         os.close(handle)
+
+
+@contextlib.contextmanager
+def proved_once(name):
+    """Waits until no other program proves a crate, and keeps others waiting until the end of the block. Gives whether the crate is
+    proved by then."""
+    out = ROOT / "crates" / name / "out"
+    out.mkdir(exist_ok=True)
+    with open(out / "proving", "w", encoding="utf-8") as kept:
+        fcntl.flock(kept, fcntl.LOCK_EX)
+        yield is_proved(name)
 
 
 def keep(made, name):

@@ -5,15 +5,21 @@ import { find } from "./common.js";
 // How often the page looks whether a dialog or a drag has ended, in milliseconds.
 const LOOK = 50;
 
+// Takes the answer to the last question.
+let lastAnswer = () => {};
+
 /** Asks a person, with words for two buttons: `keep` or `discard`, or nothing where the question is closed. */
 export function asked(question, keep = "Keep the edits", discard = "Discard them") {
   const dialog = find("ask");
+  // (the question before is closed, and the browser may tell so only later)
+  lastAnswer(dialog.returnValue);
   find("question").textContent = question;
   [find("keep").textContent, find("discard").textContent] = [keep, discard];
   dialog.returnValue = "";
   dialog.showModal();
   return new Promise((done) => {
-    dialog.onclose = () => done(dialog.returnValue);
+    lastAnswer = done;
+    dialog.onclose = () => dialog.open || done(dialog.returnValue);
   });
 }
 

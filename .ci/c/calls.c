@@ -299,6 +299,68 @@ static imgref_status one_integral(struct sizes is) {
     return status;
 }
 
+/* The numbers of a blur's room: as many as are needed or some more, now and then one too few, and then GUARD that no call may
+ * change. */
+static size_t any_room(size_t needed) {
+    if (any() % 12 == 0) return needed ? any() % needed : 0;
+    return needed + any() % 3;
+}
+
+/* The mean of the box around each place, by going over all places of the window. */
+static imgref_status one_blur(struct sizes is) {
+    enum { MOST = 12 * 16 };
+    const size_t channels = any_channels();
+    struct of_8_image it = of_8_made(is);
+    is.width = in_pixels(is, channels);
+    const struct imgref_window w = any_window(is);
+    const size_t across = any() % 9 ? any() % 6 : any_number(), down = any() % 9 ? any() % 4 : any() % 2 ? 32767 + any() % 2 : any_number();
+    uint8_t *expected = of_8_copy(&it), copy[MOST + GUARD], old_copy[MOST + GUARD];
+    uint32_t sums[MOST + GUARD], old_sums[MOST + GUARD];
+    const bool has_window = is_pixel_image(is, channels) && is_inside(is, w);
+    /* (the last cell of the window lies so far from its first) */
+    const size_t bytes = has_window && w.width && w.height ? is.stride * (w.height - 1) + w.width * channels : 0, numbers = has_window ? w.width * channels : 0;
+    size_t told_bytes = 11, told_numbers = 12;
+    imgref_status room = imgref_blur_room(is.len, is.width, is.height, is.stride, channels, w, &told_bytes, &told_numbers);
+    imgref_status wanted = !is_pixel_image(is, channels) ? IMGREF_NOT_AN_IMAGE : !is_inside(is, w) ? IMGREF_WINDOW_OUTSIDE : IMGREF_OK;
+    tell(room == wanted && told_bytes == (wanted ? 11 : bytes) && told_numbers == (wanted ? 12 : numbers));
+    if (bytes > MOST || numbers > MOST) {
+        /* (a window of no row, in an image of very long rows) */
+        free(expected);
+        of_8_freed(it);
+        return wanted;
+    }
+    const size_t copy_len = any_room(bytes), sums_len = any_room(numbers);
+    for (size_t k = 0; k < MOST + GUARD; k++) {
+        old_copy[k] = copy[k] = (uint8_t)any();
+        old_sums[k] = sums[k] = (uint32_t)any();
+    }
+    wanted = wanted                                        ? wanted
+             : across > 32767 || down > 32767              ? IMGREF_TOO_LARGE
+             : copy_len < bytes || sums_len < numbers      ? IMGREF_NO_ROOM
+                                                           : IMGREF_OK;
+    if (wanted == IMGREF_OK && w.width)
+        for (size_t y = 0; y < w.height; y++)
+            for (size_t x = 0; x < w.width; x++)
+                for (size_t k = 0; k < channels; k++) {
+                    size_t sum = 0, count = 0;
+                    for (size_t v = 0; v < w.height; v++)
+                        for (size_t u = 0; u < w.width; u++)
+                            if ((u < x ? x - u : u - x) <= across && (v < y ? y - v : v - y) <= down) {
+                                sum += of_8_was(&it, (w.left + u) * channels + k, w.top + v);
+                                count++;
+                            }
+                    size_t rest = sum % count;
+                    of_8_set(expected, &it, (w.left + x) * channels + k, w.top + y, (uint8_t)(sum / count + (2 * rest >= count)));
+                }
+    imgref_status status = imgref_u8_blur(it.cells, is.len, is.width, is.height, is.stride, channels, w, across, down, copy, copy_len, sums, sums_len);
+    /* (room that isn't asked for stays, and all of it where the call is refused) */
+    const size_t used_bytes = wanted ? 0 : copy_len, used_numbers = wanted ? 0 : sums_len;
+    const bool kept = !memcmp(copy + used_bytes, old_copy + used_bytes, MOST + GUARD - used_bytes) && !memcmp(sums + used_numbers, old_sums + used_numbers, (MOST + GUARD - used_numbers) * sizeof *sums);
+    tell(of_8_left(&it, expected, status, wanted) && kept);
+    of_8_freed(it);
+    return status;
+}
+
 /* ---- rows worked out by hand: 3 by 2 at stride 4, where the cells 3, 7 and 8 are padding */
 
 static void by_hand(void) {
@@ -337,6 +399,26 @@ static void by_hand(void) {
     count("by hand: histogram", imgref_u8_histogram(low, 7, 3, 2, 4, counts) == IMGREF_OK && counts[10] == 2 && counts[20] == 3 && counts[30] == 1 && counts[99] == 0);
     count("by hand: integral", imgref_u8_integral(low, 7, 3, 2, 4, sums, 6, 3) == IMGREF_OK && !memcmp(sums, (uint64_t[]){10, 20, 40, 40, 70, 110}, sizeof sums));
     count("by hand: equalize", imgref_u8_equalize(low, 7, 3, 2, 4) == IMGREF_OK && !memcmp(low, (uint8_t[]){85, 85, 212, 99, 255, 212, 212}, 7));
+    uint8_t grey[7] = {0, 10, 20, 99, 90, 40, 30}, copy[7];
+    uint32_t box_sums[3];
+    const struct imgref_window three = {0, 0, 3, 2};
+    /* (the boxes have 4, 6 and 4 pixels: their means are 35, 31.67 and 25) */
+    count("by hand: blur", imgref_u8_blur(grey, 7, 3, 2, 4, 1, three, 1, 1, copy, 7, box_sums, 3) == IMGREF_OK && !memcmp(grey, (uint8_t[]){35, 32, 25, 99, 35, 32, 25}, 7));
+    count("by hand: no room for the copy", imgref_u8_blur(grey, 7, 3, 2, 4, 1, three, 1, 1, copy, 6, box_sums, 3) == IMGREF_NO_ROOM && grey[1] == 32);
+    count("by hand: no room for the sums", imgref_u8_blur(grey, 7, 3, 2, 4, 1, three, 1, 1, copy, 7, box_sums, 2) == IMGREF_NO_ROOM && grey[1] == 32);
+    count("by hand: a blur of 2^15", imgref_u8_blur(grey, 7, 3, 2, 4, 1, three, 1, 32768, copy, 7, box_sums, 3) == IMGREF_TOO_LARGE && grey[1] == 32);
+    /* Without channels single cells are gone over: so three bytes of a colour mix. */
+    uint8_t rgb[6] = {200, 0, 7, 7, 0, 200};
+    size_t places[6];
+    uint64_t labels[6], regions = 0;
+    imgref_rect around;
+    count("by hand: flood_fill mixes channels", imgref_u8_flood_fill(rgb, 6, 6, 1, 6, 2, 0, 9, places, 6) == IMGREF_OK && !memcmp(rgb, (uint8_t[]){200, 0, 9, 9, 0, 200}, 6));
+    count("by hand: components mixes channels", imgref_u8_components(rgb, 6, 6, 1, 6, labels, 6, 6, places, 6, &regions) == IMGREF_OK && regions == 5 && labels[2] == labels[3]);
+    count("by hand: bounding_box mixes channels", imgref_u8_bounding_box(rgb, 6, 6, 1, 6, 200, &around) == IMGREF_OK && around.left == 0 && around.width == 6);
+    count("by hand: histogram mixes channels", imgref_u8_histogram(rgb, 6, 6, 1, 6, counts) == IMGREF_OK && counts[9] == 2 && counts[200] == 2);
+    count("by hand: integral mixes channels", imgref_u8_integral(rgb, 6, 6, 1, 6, labels, 6, 6) == IMGREF_OK && labels[5] == 418);
+    count("by hand: mosaic mixes channels", imgref_u8_mosaic(rgb, 6, 2, 1, 6, (struct imgref_window){0, 0, 2, 1}, 2, 1) == IMGREF_OK && !memcmp(rgb, (uint8_t[]){200, 200, 9, 9, 0, 200}, 6));
+    count("by hand: equalize mixes channels", imgref_u8_equalize(rgb, 6, 6, 1, 6) == IMGREF_OK && !memcmp(rgb, (uint8_t[]){255, 255, 127, 127, 42, 255}, 6));
     count("by hand: no cell", imgref_u8_fill_window(&pixel, 0, 0, 5, 1, (struct imgref_window){0, 2, 0, 3}, 7) == IMGREF_OK && pixel == 6);
 }
 
@@ -370,6 +452,7 @@ int main(void) {
     series("u16 histogram", one_histogram_16, 1u << IMGREF_OK | 1u << IMGREF_NOT_AN_IMAGE);
     series("u8 equalize", one_equalize, 1u << IMGREF_OK | 1u << IMGREF_NOT_AN_IMAGE);
     series("u8 integral", one_integral, 1u << IMGREF_OK | 1u << IMGREF_NOT_AN_IMAGE);
+    series("u8 blur", one_blur, 1u << IMGREF_OK | 1u << IMGREF_NOT_AN_IMAGE | 1u << IMGREF_WINDOW_OUTSIDE | 1u << IMGREF_TOO_LARGE | 1u << IMGREF_NO_ROOM);
     printf("%u passed, %u failed\n", passed, failed);
     return failed || !passed;
 }

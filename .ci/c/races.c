@@ -22,8 +22,9 @@ static void *guarded(size_t bytes) {
     return made + room - bytes;
 }
 
-static uint8_t *bytes, *few;
+static uint8_t *bytes, *few, *copied;
 static uint16_t *words;
+static uint32_t *box_sums;
 static uint64_t *labels, *counts;
 static size_t *room;
 
@@ -82,6 +83,12 @@ static void means(void) {
     (void)imgref_u8_mosaic_means(bytes, PLACES, SIDE, SIDE, SIDE, 1, all, 5, 7);
 }
 
+/* (the room ends at pages that can't be touched) */
+static void blurs(void) {
+    const imgref_rect all = {0, 0, SIDE, SIDE};
+    (void)imgref_u8_blur(bytes, PLACES, SIDE, SIDE, SIDE, 1, all, 2, 5, copied, PLACES, box_sums, SIDE);
+}
+
 /* Another process: pixels become 0 again and again, or change one by one. */
 static void others_zero(void) {
     for (;;) {
@@ -134,12 +141,15 @@ int main(void) {
         {"histogram of words", histograms_of_words},
         {"equalize", equalized},        {"integral", sums},
         {"count", counted},             {"mosaic_means", means},
+        {"blur", blurs},
     };
     unsigned passed = 0, failed = 0;
     bytes = guarded(PLACES);
     words = guarded(PLACES * sizeof *words);
     labels = guarded(PLACES * sizeof *labels);
     few = guarded(4);
+    copied = guarded(PLACES);
+    box_sums = guarded(SIDE * sizeof *box_sums);
     counts = guarded(65536 * sizeof *counts);
     room = guarded(PLACES * sizeof *room);
     void (*const others[])(void) = {others_zero, others_change, others_change_four};

@@ -336,6 +336,90 @@ static void values_and_sums() {
     check("equalize", pixels == std::array<std::uint8_t, 7>{85, 85, 212, 99, 255, 212, 212});
 }
 
+// The mean of the box around a pixel of a window, by going over all pixels of the window.
+static std::uint8_t box_mean(const std::vector<std::uint8_t> &cells, std::size_t stride, std::size_t channels, const imgref::rect &window, std::size_t x, std::size_t y, std::size_t k, std::size_t across, std::size_t down) {
+    std::size_t sum = 0, count = 0;
+    for (std::size_t v = 0; v < window.height; ++v)
+        for (std::size_t u = 0; u < window.width; ++u)
+            if ((u < x ? x - u : u - x) <= across && (v < y ? y - v : v - y) <= down) {
+                sum += cells[(window.top + v) * stride + (window.left + u) * channels + k];
+                ++count;
+            }
+    return static_cast<std::uint8_t>((2 * sum + count) / (2 * count));
+}
+
+// Blurs of windows of 7 by 6 pixels with 1 to 4 channels: each pixel beside the model, and no other byte.
+static void blurs() {
+    using namespace imgref;
+    std::array<std::uint8_t, 6> row{0, 10, 20, 90, 3, 4};
+    view(row, 6, 1).blur({0, 0, 4, 1}, 1);
+    check("blur by hand", row == std::array<std::uint8_t, 6>{5, 10, 40, 55, 3, 4});
+    for (std::size_t channels = 1; channels <= 4; ++channels) {
+        const std::size_t width = 7, height = 6, stride = width * channels + 3;
+        std::vector<std::uint8_t> cells(stride * height);
+        std::uint32_t next = 1;
+        for (auto &it : cells) it = static_cast<std::uint8_t>((next = next * 1664525u + 1013904223u) >> 24);
+        bool is_well = true;
+        for (const rect &window : {rect{0, 0, width, height}, rect{2, 1, 4, 3}, rect{0, 5, 7, 1}, rect{6, 0, 1, 6}, rect{3, 3, 0, 2}, rect{7, 6, 0, 0}})
+            for (std::size_t across : {0, 1, 2, 7, 32767})
+                for (std::size_t down : {0, 1, 9}) {
+                    auto due = cells, blurred = cells;
+                    for (std::size_t y = 0; y < window.height; ++y)
+                        for (std::size_t x = 0; x < window.width; ++x)
+                            for (std::size_t k = 0; k < channels; ++k) due[(window.top + y) * stride + (window.left + x) * channels + k] = box_mean(cells, stride, channels, window, x, y, k, across, down);
+                    view(blurred, width * channels, height, stride).blur(window, across, down, channels);
+                    is_well = is_well && blurred == due;
+                }
+        check(("blur, channels: " + std::to_string(channels)).c_str(), is_well);
+    }
+    std::vector<std::uint8_t> cells(12 * 4);
+    for (std::size_t k = 0; k < cells.size(); ++k) cells[k] = static_cast<std::uint8_t>(k * k);
+    auto same = cells, other = cells, whole = cells;
+    const auto before = cells;
+    auto image = colours<3>(cells, 4, 4);
+    image.blur({1, 0, 3, 4}, 2, 1);
+    view(same, 12, 4).blur({1, 0, 3, 4}, 2, 1, 3);
+    check("blur of colours", cells == same && cells != before && cells[0] == before[0]);
+    colours<3>(other, 4, 4).blur(2);
+    view(whole, 12, 4).blur({0, 0, 4, 4}, 2, 2, 3);
+    auto grey = before, grey_whole = before;
+    view(grey, 12, 4).blur(2);
+    view(grey_whole, 12, 4).blur({0, 0, 12, 4}, 2);
+    check("blur of all", other == whole && grey == grey_whole && grey != other);
+    const auto kept = cells;
+    view bytes(cells, 12, 4);
+    check("no blur", is_refused(IMGREF_WINDOW_OUTSIDE, [&] { image.blur({2, 0, 3, 1}, 1); }) && is_refused(IMGREF_WINDOW_OUTSIDE, [&] { bytes.blur({0, 4, 1, 1}, 1); }) &&
+                         is_refused(IMGREF_TOO_LARGE, [&] { image.blur(32768); }) && is_refused(IMGREF_TOO_LARGE, [&] { bytes.blur({0, 0, 1, 1}, 0, 32768); }) && is_refused(IMGREF_TOO_LARGE, [&] { bytes.blur({0, 0, 1, 1}, static_cast<std::size_t>(-1), 0); }) &&
+                         is_refused(IMGREF_NOT_AN_IMAGE, [&] { bytes.blur({0, 0, 1, 1}, 1, 1, 5); }) && is_refused(IMGREF_NOT_AN_IMAGE, [&] { bytes.blur({0, 0, 1, 1}, 1, 1, 0); }) && cells == kept);
+    std::vector<std::uint8_t> none;
+    view(none, 0, 7).blur(3);
+    check("blur of no pixel", none.empty());
+}
+
+// What goes by single elements, on three bytes a pixel: channels mix, and a struct of four bytes keeps them apart.
+static void channels_that_mix() {
+    using namespace imgref;
+    // (red beside a blue that has the same number)
+    const std::array<std::uint8_t, 6> pixels{200, 0, 7, 7, 0, 200};
+    auto bytes = pixels;
+    view image(bytes, 6, 1);
+    image.flood_fill(2, 0, {9});
+    check("single elements: flood_fill goes from a blue on to the next red", bytes == std::array<std::uint8_t, 6>{200, 0, 9, 9, 0, 200});
+    std::array<std::uint64_t, 6> labels{};
+    check("single elements: components_into", image.components_into(view(labels, 6, 1)) == 5 && labels == std::array<std::uint64_t, 6>{1, 2, 3, 3, 4, 5});
+    const rect around = image.bounding_box({200});
+    check("single elements: bounding_box, histogram", around.left == 0 && around.width == 6 && image.histogram()[200] == 2);
+    image.integral_into(view(labels, 6, 1));
+    check("single elements: integral_into", labels == std::array<std::uint64_t, 6>{200, 200, 209, 218, 218, 418});
+    bytes = pixels;
+    image.mosaic(3, 1);
+    check("single elements: mosaic", bytes == std::array<std::uint8_t, 6>{200, 200, 200, 7, 7, 7});
+    alignas(4) std::array<colour, 3> whole{{{1, 2, 3, 4}, {1, 2, 3, 4}, {4, 3, 2, 1}}};
+    view(whole, 3, 1).flood_fill(0, 0, {9, 8, 7, 6});
+    std::array<std::uint64_t, 3> regions{};
+    check("colours of four bytes are single elements", whole[1] == colour{9, 8, 7, 6} && whole[2] == colour{4, 3, 2, 1} && view(whole, 3, 1).components_into(view(regions, 3, 1)) == 2);
+}
+
 // Regions: a ring of ones around a hole, 5 by 4 at stride 6.
 static void regions() {
     using namespace imgref;
@@ -406,6 +490,8 @@ int main() {
     values();
     turns();
     values_and_sums();
+    blurs();
+    channels_that_mix();
     regions();
     packed_windows();
     tiles();

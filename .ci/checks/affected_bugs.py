@@ -1,8 +1,9 @@
 #!/usr/bin/env python3
-"""Shows which planted bugs a change affects: .ci/changed.py, beside an old tree that differs in one place.
+"""Shows which planted bugs a change affects, and which crates: .ci/changed.py, beside an old tree that differs in one place.
 
 A change of a body affects the bugs of that function alone, one of a contract those of its callers too, one of a definition those of each
-function that cites it, in other crates too. What only moved and a comment affect none.
+function that cites it, in other crates too. What only moved and a comment affect none. A change of a crate is one of those above it
+too. One of a page is none of a crate, and one of a tool may be one of all.
 """
 import pathlib
 import sys
@@ -10,7 +11,7 @@ import sys
 sys.path.insert(0, str(pathlib.Path(__file__).resolve().parent.parent))
 from checking import ROOT, Cases, crates
 
-from changed import Changes
+from changed import Changes, since
 from planted_bugs import all_bugs
 
 COUNTING = "crates/image_ops/src/counting.rt"
@@ -51,7 +52,25 @@ def main():
         found = functions_affected(bugs, {**texts, path: texts[path].replace(text, before)})
         more = {it for it in found - wanted if spared is None or it.split("/")[0] in spared}
         cases.count(f"{what}: affects {', '.join(sorted(wanted)) or 'none'}{' and who else cites it' if spared else ''}", wanted <= found and not more, f"affected: {sorted(found)}")
+    check_crates(cases, texts)
     return cases.end()
+
+
+def check_crates(cases, texts):
+    """Which crates differ, and whether more does."""
+    lists = (ROOT / "crates.txt").read_text(encoding="utf-8")
+    for what, old, paths, wanted, spared, has_more in [
+        ("the same tree", texts, (), set(), {*crates()}, False),
+        ("pages", texts, ("README.md", "docs/C.md", "web/save.js", ".ci/last_landed", "crates/image_ops/must-fail/x.edit"), set(), {*crates()}, False),
+        ("a tool", texts, ("docs/C.md", "tools/proving.py"), set(), {*crates()}, True),
+        ("the input of a crate's program", texts, ("crates/imgref_run/stdin",), set(), {*crates()}, True),
+        ("a crate", {**texts, COUNTING: texts[COUNTING] + "//\n"}, (COUNTING,), {"image_ops", "imgref", "imgref_frames"}, {"image_flips", "image_turns", "row_mover"}, False),
+    ]:
+        found = since(old, lists, paths)
+        is_well = wanted <= {*found.crates} and not spared & {*found.crates} and found.has_more == has_more
+        cases.count(f"{what}: {'more than crates and pages' if has_more else 'no more than crates and pages'}, and {', '.join(sorted(wanted)) or 'no crate'}", is_well, found)
+    found = since(texts, lists.replace("image_planes: image_means", "image_planes: "), ())
+    cases.count("a line of the list of crates: that crate and those above it", {"image_planes", "imgref_frames"} <= {*found.crates} and "imgref" not in found.crates, found)
 
 
 if __name__ == "__main__":

@@ -57,7 +57,7 @@ RUNS = [
     ("frame_edits", "lists", "take", READ, VIDEO, FILL),
     ("frame_edits", "lists", "take_all", READ, VIDEO, FILL),
     ("frame_edits", "lists", "take_lines", READ, VIDEO, ("--edits", EDITS)),
-    ("imgref_frames", "program", "run", "if true { return Err(RunFault::Memory(0)); }", VIDEO, FILL),
+    ("frame_runs", "program", "run", "if true { return Err(RunFault::Memory(0)); }", VIDEO, FILL),
 ]
 # The files that are kept of a crate with many tests.
 FILES = {"imgref_hostile_tests": ("contiguous", "copies", "fixtures"), "imgref_replay_tests": ("commands", "fixtures")}

@@ -6,7 +6,8 @@ Each such number in these pages is compared, and one of the pages says it. How m
 the gate. So README.md says 'More than N', and N is no more than the functions with a contract that the sources have: the gate
 proves each of them. A page says of a command how many minutes it takes, and what `.ci/gate.py` prints for it lies within. In a
 table of examples, a proof file has as many lines as the page says. docs/ARCHITECTURE.md names each crate, each one above those
-that it depends on. (A script named `numbers` would hide a module of Python.)
+that it depends on. `page_numbers.py --write` writes the numbers of NUMBERS, as `make docs` does. (A script named `numbers` would hide
+a module of Python.)
 """
 import pathlib
 import re
@@ -66,7 +67,7 @@ def has_contract(lines, head):
 
 
 ALL = [*ROOT.glob("*.md"), *(it for it in (ROOT / "docs").glob("*.md") if it.name not in sentences.WRITTEN), *(ROOT / "bindings/python").glob("*.md")]
-FRAMES, SPANS = "crates/imgref_frames/src", "crates/image_planes/src/spans.rt"
+FRAMES, SPANS = "crates/frame_runs/src", "crates/image_planes/src/spans.rt"
 WINDOWS, NESTED = "crates/imgref_hostile_tests/src/tests/windows.rt", "crates/imgref_replay_tests/src/tests/nested.rt"
 # The pages (all, where none is named), how a page says a number N, and the number.
 NUMBERS = [
@@ -90,12 +91,27 @@ NUMBERS = [
 ]
 
 
+def numbers():
+    """For each row of NUMBERS: its pages, how they say the number, the pattern of that, and the number."""
+    for names, said, made in NUMBERS:
+        yield [ROOT / it for it in names] or ALL, names, said, re.escape(said).replace(re.escape("{N}"), r"\b(\d[\d,]*)"), int(made())
+
+
+def write():
+    """Writes each number of NUMBERS into its pages, with commas where they have some."""
+    for pages, _, _, pattern, due in numbers():
+        for page in pages:
+            text = page.read_text()
+            new = re.sub(pattern, lambda it: it[0].replace(it[1], f"{due:,}" if "," in it[1] else str(due), 1), text)
+            if new != text:
+                page.write_text(new)
+                print(f"{page.relative_to(ROOT)}: {due}")
+
+
 def same_numbers(cases):
     """Each number of NUMBERS."""
-    for names, said, made in NUMBERS:
-        pattern, due = re.escape(said).replace(re.escape("{N}"), r"\b(\d[\d,]*)"), int(made())
-        texts = [it.read_text() for it in ([ROOT / it for it in names] or ALL)]
-        found = [int(it.replace(",", "")) for text in texts for it in re.findall(pattern, text)]
+    for pages, names, said, pattern, due in numbers():
+        found = [int(it.replace(",", "")) for page in pages for it in re.findall(pattern, page.read_text())]
         label = f"{' '.join(names) or 'pages'}: {said.format(N=due)}"
         cases.count(label, found and {*found} == {due}, f"  the pages say {found or 'no such number'}")
 
@@ -153,4 +169,4 @@ def main():
 
 
 if __name__ == "__main__":
-    sys.exit(main())
+    sys.exit(write() if sys.argv[1:] == ["--write"] else main())

@@ -1,16 +1,23 @@
 #!/usr/bin/env python3
-"""Shows that what `make run` says of its progress moves: the prover's lines of three crates go to the same class, second by second."""
+"""Shows that what `make run` says of its progress moves, and that it tells what is left.
+
+The prover's lines of three crates go to the same class, second by second. So do those of `make run`, which were recorded from
+nothing on an idle machine: at each tenth of the time what is left is told to a third. `progress.py --write` records the last proofs of
+this checkout anew: for a change by which the recorded ones no longer stand for today's crates.
+"""
 import pathlib
 import re
 import sys
 
 sys.path.insert(0, str(pathlib.Path(__file__).resolve().parent.parent))
-from checking import Cases
-from proving import Progress
+from checking import ROOT, Cases
+from proving import SO_FAR, Progress, Work, all_below, weights_of
 
 SHARE = re.compile(r"\d+:\d\d +([\d.]+) %")
 # What is shown moves at least so often, in seconds.
 MOVES = 20
+# What was recorded: the program, the second, the crate, and what was said.
+RECORDED, PROGRAM = ROOT / ".ci/checks/progress.txt", "imgref_run"
 # Crates that are proved one after the other: how many functions each has, and the seconds before the first and of each.
 CRATES = {"shapes": (34, 20, 0.5), "images": (88, 24, 1.5), "program": (41, 40, 1)}
 
@@ -27,20 +34,54 @@ def said():
         yield second, name, "ends"
 
 
-def shown(lines):
-    """What is shown in each second, from 0 to the last."""
-    names, now = [*CRATES], [0.0]
-    weights = {name: 10 + count for name, (count, _, _) in CRATES.items()}
-    progress = Progress(weights, dict(zip(names, [[], *[[it] for it in names]])), lambda: now[0])
-    texts, at = [], 0
+def told(lines, progress, now):
+    """Has the progress told of these lines, second by second, from 0 to the last."""
+    at = 0
     for second in range(int(lines[-1][0]) + 2):
         while at < len(lines) and lines[at][0] <= second:
             now[0], (_, name, line) = lines[at][0], lines[at]
             {"begins": progress.begin, "ends": progress.end}.get(line, lambda it: progress.hear(it, line))(name)
             at += 1
         now[0] = float(second)
-        texts.append(progress.text())
-    return texts
+        yield second
+
+
+def shown(lines):
+    """What is shown in each second, from 0 to the last."""
+    names, now = [*CRATES], [0.0]
+    works = {name: Work(10 + count, loading / 2) for name, (count, loading, _) in CRATES.items()}
+    progress = Progress(works, dict(zip(names, [[], *[[it] for it in names]])), lambda: now[0], 4)
+    return [progress.text() for _ in told(lines, progress, now)]
+
+
+def recorded():
+    """The lines that were recorded."""
+    rows = (line.split(maxsplit=2) for line in RECORDED.read_text(encoding="utf-8").splitlines() if not line.startswith("#"))
+    return [(float(second), crate, what) for second, crate, what in rows]
+
+
+def record():
+    """Records the last proofs of the program."""
+    head, lines = RECORDED.read_text(encoding="utf-8").split("\n", 1)[0], []
+    for line in (ROOT / "crates" / PROGRAM / "out/build.log").read_text(encoding="utf-8").splitlines():
+        second, crate, what = [*line.split("\t", 2), "", ""][:3]
+        if what in ("begins", "ends") or SO_FAR.match(what):
+            lines.append(f"{second} {crate} {what.split(';')[0]}")
+    RECORDED.write_text("\n".join([head, *lines, ""]), encoding="utf-8")
+
+
+def check_left(cases):
+    """What is told to be left of recorded proofs, at each tenth of their time."""
+    lines, now = recorded(), [0.0]
+    names = {name for _, name, _ in lines}
+    works, below = weights_of([it for it in all_below([PROGRAM]) if it in names])
+    progress, whole, left = Progress(works, below, lambda: now[0], 4), lines[-1][0], {}
+    for second in told(lines, progress, now):
+        progress.text()
+        left[second] = progress.left()
+    for tenth in range(1, 10):
+        truth, said_then = whole * (10 - tenth) / 10, left[int(whole * tenth / 10)]
+        cases.count(f"{PROGRAM}, after {tenth} tenths: {said_then:.0f} of {truth:.0f} seconds are told", 2 / 3 <= said_then / truth <= 4 / 3)
 
 
 def main():
@@ -54,6 +95,7 @@ def main():
     cases.count(f"no share stays for longer than {MOVES} seconds", longest <= MOVES, f"{longest} seconds")
     cases.count("functions are counted", any(re.search(r"\d+ of \d+", it) for it in texts))
     cases.count("what is left is shown", any("min left" in it for it in texts))
+    check_left(cases)
     return cases.end()
 
 
@@ -69,4 +111,4 @@ def runs(shares):
 
 
 if __name__ == "__main__":
-    sys.exit(main())
+    sys.exit(record() if sys.argv[1:] == ["--write"] else main())

@@ -679,6 +679,26 @@ static size_t *room_of(const image *i) {
     return room;
 }
 
+/* A colour is taken for so many bytes. The sums lie first in the room, since they have four bytes each. */
+CALL(call_blur) {
+    (void)module;
+    size_t n[7], bytes, numbers;
+    Cells *it = first_in(given, count, 5);
+    if (!it || !window_in(given[1], n) || !numbers_of(given + 2, 3, n + 4) || !is_written(it)) return NULL;
+    const image i = n[6] > it->shown.step ? with_step(it->shown, n[6]) : it->shown;
+    if (i.size != 1) return PyErr_Format(PyExc_TypeError, "no bytes");
+    const imgref_status found = image_blur_room(&i, window_of(n), &bytes, &numbers);
+    if (found != IMGREF_OK) return done_in(&i, found, n);
+    const size_t all = numbers * sizeof(uint32_t) + bytes + 1;
+    char *room = malloc(all);
+    if (!room) return PyErr_NoMemory();
+    take_large_pages(room, all);
+    UNLOCKED(IN(n), image_blur(&i, window_of(n), n[4], n[5], (uint8_t *)room + numbers * sizeof(uint32_t), bytes, (uint32_t *)(void *)room, numbers))
+    free(room);
+    if (status == IMGREF_TOO_LARGE) return REFUSED(status, "radius", n[4], n[5]);
+    return done_in(&i, status, n);
+}
+
 /* It keeps Python's lock, so that no other thread of Python writes pixels meanwhile. (Where another process does, the library
  * writes nothing outside.) */
 CALL(call_flood_fill) {
@@ -885,7 +905,7 @@ ENCODE(Q, 64, false, OWN "Q")
 static PyMethodDef calls[] = {
     FAST(get),  FAST(put),    FAST(fill),   FAST(copy), FAST(move), FAST(mosaic),     FAST(mosaic_means), FAST(pack), FAST(equal),
     FAST(hold), FAST(window), FAST(joined), FAST(overlap), {"room", call_room, METH_O, NULL},        {"address", call_address, METH_O, NULL},
-    FAST(histogram), FAST(equalize), FAST(integral), FAST(flood_fill), FAST(components), FAST(bounding_box),
+    FAST(histogram), FAST(equalize), FAST(integral), FAST(flood_fill), FAST(components), FAST(bounding_box), FAST(blur),
     FAST(count), FAST(turn), FAST(turn_in_place), FAST(flip_rows), FAST(flip_columns), FAST(swap_rows),
     FAST(tile), FAST(tile_count), NUMBER(b), NUMBER(B), NUMBER(h), NUMBER(H), NUMBER(i), NUMBER(I), NUMBER(q), NUMBER(Q),
     {NULL, NULL, 0, NULL},

@@ -192,6 +192,16 @@ static imgref_status image_mosaic_means(const image *i, imgref_rect window, size
     }
 }
 
+/* The room that a blur of a window needs: so many bytes, and so many numbers of four bytes. */
+static imgref_status image_blur_room(const image *i, imgref_rect window, size_t *bytes, size_t *numbers) {
+    return imgref_blur_room(i->len, i->width / i->step, i->height, i->stride, i->step, window, bytes, numbers);
+}
+
+/* The cells are bytes, and there is that room: the caller tests it. */
+static imgref_status image_blur(const image *i, imgref_rect window, size_t across, size_t down, uint8_t *copy, size_t bytes, uint32_t *sums, size_t numbers) {
+    return imgref_u8_blur(PIXELS(uint8_t, i), i->step, window, across, down, copy, bytes, sums, numbers);
+}
+
 /* The cells are numbers of one or of two bytes, each a pixel, and there is a count for each value: the caller tests it. */
 static imgref_status image_histogram(const image *i, uint64_t *counts) {
     return i->size == 1 ? imgref_u8_histogram(LAYOUT(uint8_t, i), counts) : imgref_u16_histogram(LAYOUT(uint16_t, i), counts);

@@ -3,6 +3,7 @@
 import os
 import pathlib
 import random
+import shutil
 import subprocess
 import sys
 import tempfile
@@ -291,7 +292,11 @@ def by_owners(cases, program):
         cases.count("root keeps the owner and the group of an output", said == (b"", "", 0) and taken.read_bytes() == out and (found.st_uid, found.st_gid, found.st_mode & 0o7777) == (12345, 12346, 0o6755), str(found))
         os.chown(taken, 0, 0)
         taken.chmod(0o4755)
-        done = subprocess.run([program, "-o", taken, *words], input=made, capture_output=True, timeout=120, user=12345, group=12346)
+        with tempfile.TemporaryDirectory() as other:
+            # (the checkout may be where this owner reads nothing)
+            pathlib.Path(other).chmod(0o755)
+            copied = shutil.copy2(program, other)
+            done = subprocess.run([copied, "-o", taken, *words], input=made, capture_output=True, timeout=120, user=12345, group=12346)
         found = taken.stat()
         cases.count("another owner's output is refused and stays", done.returncode == 5 and done.stderr.decode().split("\n")[:2] == ["fault output", f"the output {taken} can't be written: it has another owner or group, which can't be kept"] and found.st_uid == 0 and taken.read_bytes() == out and os.listdir(folder) == ["out"], f"{done} {found}")
 
@@ -312,6 +317,9 @@ def by_options(cases, program):
     cases.count("a byte less is out of memory", ends(program, ["--limit", str(size - 1), "fill", "0,0,2,2", "9"], video("420")) == (b"", "fault memory 0", 3))
     large = b"YUV4MPEG2 W32768 H32768 C444\nFRAME\n"
     cases.count("a large frame is out of memory without asking for it", ends(program, ["fill", "0,0,2,2", "9"], large) == (b"", "fault memory 0", 3))
+    # (a rectangle of odd width that ends where the frame ends is whole samples)
+    said = lines_said(program, "fill 4,0,1,2 9 fill 0,0,6,2 9".split(), video("420", 5, 4))
+    cases.count("an odd width at the edge isn't blamed for the edit after it", said[:3] == ["fault outside", "the frame has 5 by 4 pixels", "edit 2: it reaches outside the frame"], str(said))
     for words, sampling, reason in REASONS:
         lines = lines_said(program, words.split(), video(sampling))
         cases.count(f"'{words}' says why", any(reason in it for it in lines[1:]), str(lines[:4]))

@@ -177,11 +177,23 @@ def by_hosts(cases, place):
             it.kill()
 
 
-def python_with_dask():
+def python_with(modules):
     for it in dict.fromkeys((sys.executable, "/usr/bin/python3")):
-        if subprocess.run([it, "-c", "import dask.array, distributed, numpy"], capture_output=True).returncode == 0:
+        if subprocess.run([it, "-c", f"import {modules}"], capture_output=True).returncode == 0:
             return it
     return None
+
+
+# What makes in.npy, a picture of one run, and how many pixels of another one differ from those of out.pgm.
+WHOLE = "import numpy, sys; a = numpy.load('in.npy'); b = a.astype('>u2' if a.itemsize == 2 else 'u1'); sys.stdout.buffer.write(b'P5\\n%d %d\\n%d\\n' % (a.shape[1], a.shape[0], 65535 if a.itemsize == 2 else 255) + b.tobytes())"
+COMPARED = "import numpy, sys; made = sys.argv[1]; a = numpy.load(made) if made.endswith('.npy') else __import__('zarr').open_array(made, mode='r')[:]; b = numpy.frombuffer(open('out.pgm', 'rb').read()[-a.nbytes:], '>u2' if a.itemsize == 2 else 'u1').reshape(a.shape); print(a.shape, int((a != b).sum()))"
+
+
+def beside_one_run(python, folder, env, edit, size, made):
+    """The shape of the picture that Dask made of in.npy, and how many of its pixels aren't those of one run of imgref_frames."""
+    one = f'{python} -c "$1" | imgref_frames {edit[0]} 0,0,{size} {edit[1]} > out.pgm'
+    subprocess.run(["bash", "-c", one, "-", WHOLE], cwd=folder, env=env, check=True)
+    return subprocess.run([python, "-c", COMPARED, made], cwd=folder, capture_output=True, text=True).stdout.strip()
 
 
 def memory_of(process):
@@ -205,11 +217,9 @@ def by_dask(cases, place):
     """A picture by blocks is that of one run, also with a worker killed, and takes less memory than the picture has."""
     if cases.lacks("pictures by Dask", "python3-dask", "python3-distributed", "python3-numpy", number=6):
         return
-    python, folder = python_with_dask(), place.folder / "dask"
+    python, folder = python_with("dask.array, distributed, numpy"), place.folder / "dask"
     folder.mkdir()
     made = "import numpy; a = numpy.lib.format.open_memmap('in.npy', mode='w+', dtype=numpy.{kind}, shape=({high}, {wide})); [a.__setitem__(y, numpy.random.default_rng(y).integers(0, {most}, {wide})) for y in range({high})]; a.flush()"
-    whole = "import numpy, sys; a = numpy.load('in.npy'); b = a.astype('>u2' if a.itemsize == 2 else 'u1'); sys.stdout.buffer.write(b'P5\\n%d %d\\n%d\\n' % (a.shape[1], a.shape[0], 65535 if a.itemsize == 2 else 255) + b.tobytes())"
-    compared = "import numpy, sys; a = numpy.load('out.npy'); b = numpy.frombuffer(open('out.pgm', 'rb').read()[-a.nbytes:], '>u2' if a.itemsize == 2 else 'u1').reshape(a.shape); print(a.shape, int((a != b).sum()))"
 
     def run(*words, kill=False, memory=None):
         process = subprocess.Popen([python, ROOT / "examples/dask_tiles.py", "in.npy", "out.npy", *words], cwd=folder, env=place.env, stdin=subprocess.DEVNULL, stdout=subprocess.PIPE, stderr=subprocess.STDOUT, text=True)
@@ -238,8 +248,7 @@ def by_dask(cases, place):
         subprocess.run([python, "-c", made.format(kind=kind, most=most, wide=1037, high=777)], cwd=folder, check=True)
         (folder / "out.npy").unlink(missing_ok=True)
         status, said, _, killed = run(*edit, "--block", "128", "--workers", "2", kill=kill)
-        subprocess.run(["bash", "-c", f'{python} -c "$1" | imgref_frames {edit[0]} 0,0,1037,777 {edit[1]} > out.pgm', "-", whole], cwd=folder, env=place.env, check=True)
-        apart = subprocess.run([python, "-c", compared], cwd=folder, capture_output=True, text=True).stdout.strip()
+        apart = beside_one_run(python, folder, place.env, edit, "1037,777", "out.npy")
         cases.count(f"Dask, {label}{', with a worker killed' if kill else ''}: as one run", status == 0 and apart == "(777, 1037) 0" and (killed or not kill), f"{status} {apart} {killed} {said[-2000:]}")
     # A picture of 900 MB, of zeros, so that its file takes no room before.
     (folder / "out.npy").unlink()
@@ -252,6 +261,32 @@ def by_dask(cases, place):
     (folder / "out.npy").unlink()
     status, said, _, _ = run("means", "7,7", "--block", "3000")
     cases.count("tiles that a block cuts are refused", status == 1 and "whole ones" in said, said)
+
+
+def by_zarr(cases, place):
+    """A picture in a folder of zarr, also of chunks that no block has, becomes that of one run. So does one that begins or ends as a file
+    of NumPy."""
+    if cases.lacks("pictures of zarr by Dask", "python3-zarr", "python3-dask", "python3-distributed", "python3-numpy", number=7):
+        return
+    python, folder = python_with("dask.array, distributed, numpy, zarr"), place.folder / "zarr"
+    folder.mkdir()
+    made = "import numpy, sys, zarr; a = numpy.random.default_rng(5).integers(0, {most}, (377, 541)).astype('{kind}'); numpy.save('in.npy', a); z = zarr.open_array('in.zarr', mode='w', shape=a.shape, chunks=(100, 90), dtype=a.dtype); z[:] = a"
+
+    def run(given, to, *words):
+        return subprocess.run([python, ROOT / "examples/dask_tiles.py", given, to, *words, "--block", "128", "--workers", "2"], cwd=folder, env=place.env, stdin=subprocess.DEVNULL, capture_output=True, text=True, timeout=SECONDS)
+
+    for kind, edit, ways in (("uint8", ("means", "16,16"), ("npy zarr", "zarr zarr")), ("uint8", ("blur", "7"), ("npy zarr", "zarr zarr")), ("uint16", ("mosaic", "8,4"), ("zarr zarr", "zarr npy"))):
+        subprocess.run([python, "-c", made.format(kind=kind, most=256 if kind == "uint8" else 65536)], cwd=folder, check=True)
+        for way in ways:
+            given, to = (f"{name}.{ending}" for name, ending in zip(("in", "out"), way.split()))
+            done = run(given, to, *edit)
+            apart = beside_one_run(python, folder, place.env, edit, "541,377", to)
+            cases.count(f"Dask, {edit[0]} of {kind}, {given} to {to}: as one run", done.returncode == 0 and apart == "(377, 541) 0", f"{done.returncode} {apart} {done.stdout[-2000:]}{done.stderr[-2000:]}")
+            shutil.rmtree(folder / to) if to.endswith(".zarr") else (folder / to).unlink()
+    (folder / "none.zarr").mkdir()
+    words = ("none.zarr", "out.zarr/", "means", "16,16")
+    done = run(*words)
+    cases.count("a folder that is none of zarr is refused by name", done.returncode == 1 and done.stderr.startswith("none.zarr: ") and "Traceback" not in done.stderr and not [*folder.glob("out.zarr*")], done.stderr)
 
 
 def read(path):
@@ -276,13 +311,13 @@ def main():
     for program in both_builds(cases, "imgref_frames")[:1]:
         missing = [it for it in ("ffmpeg", "ffprobe") if not shutil.which(it)]
         if missing:
-            cases.skip("many videos", *missing, number=25)
+            cases.skip("many videos", *missing, number=32)
             continue
         # (a host that is killed may still write while its folder is removed)
         with tempfile.TemporaryDirectory(ignore_cleanup_errors=True) as folder:
             place = Place(folder, program)
             video(folder, "in.mp4")
-            all_of(cases, [lambda it=it: it(cases, place) for it in (by_hosts, by_dask, by_folder, by_signal)])
+            all_of(cases, [lambda it=it: it(cases, place) for it in (by_hosts, by_dask, by_zarr, by_folder, by_signal)])
     return cases.end()
 
 

@@ -26,7 +26,7 @@ from python_package import HOOK, TRIED, described
 PYTHON = ROOT / "bindings/python"
 # The tests of the package, each a program that counts: those of every Python, and those of one.
 QUICK = ("calls", "formats", "shapes", "colours", "buffers", "refusals", "indexes", "regions")
-TESTS = (*QUICK, "reentry", "races", "speed")
+TESTS = (*QUICK, "reentry", "races")
 # Freed memory is overwritten, so that a read or a write of it shows.
 DEBUGGED = {"PYTHONMALLOC": "debug", "MALLOC_PERTURB_": "165"}
 # A module that is compiled so is for this version of CPython and all later ones.
@@ -214,7 +214,7 @@ def check_sources(cases, room, python, quiet):
 def check_hints(cases, room, python):
     """The type hints, by mypy: those of the installed package, and what a user's code may say of
     it."""
-    if cases.lacks("Python's type hints", "mypy", number=14):
+    if cases.lacks("Python's type hints", "mypy", number=16):
         return
     head = "import imgref\n\nframe = imgref.Image(bytearray(6), 3, 2)\n"
     users = {
@@ -225,6 +225,8 @@ def check_hints(cases, room, python):
         "view: memoryview = memoryview(frame)": True,
         "part: imgref.Image = frame[0:1, 1:3]; frame[0, 1] = 7; frame[0:1, 1:3] = frame.copy(); frame[0:1] = (1, 2, 3)": True,
         "frame.fill(7); frame.fill((1, 2, 3)); frame.fill(value=(1, 2, 3, 4))": True,
+        "frame.blur((0, 0, 2, 2), 1); frame.blur(imgref.Window(0, 0, 2, 2), (1, 2))": True,
+        "frame.blur((0, 0, 2, 2), 0.5)": False,
         "frame.fill()": False,
         "frame['x']": False,
         "pixels: bytes = bytes(frame); planes: list[imgref.Image] = imgref.Image.planes_of(frame)": True,

@@ -12,7 +12,7 @@ import sys
 import tempfile
 
 sys.path.insert(0, str(pathlib.Path(__file__).resolve().parents[2]))
-from checking import ROOT, Cases
+from checking import ROOT, Cases, side_by_side
 from library import WARNINGS, counted, installed, run
 
 from inspection import NEEDED, symbols
@@ -49,7 +49,7 @@ def check_names(cases, compiler, prefix):
     """Both libraries show the header's functions, and no other name."""
     _, wrote, said = run([*compiler, "-E", prefix / "include/imgref.h"])
     declared = set(re.findall(r"\b(imgref_\w+)\s*\(", wrote.decode()))
-    cases.count("the header declares the calls", len(declared) == 5 + 4 * 21 + 2 + 4, said)
+    cases.count("the header declares the calls", len(declared) == 6 + 4 * 21 + 2 + 5, said)
     shared = names(["-D", prefix / "lib/libimgref.so"])
     cases.count("the shared object shows the header's names alone", shared == declared, str(shared ^ declared))
     static = names(["-g", prefix / "lib/libimgref.a"])
@@ -177,7 +177,10 @@ COMPILES = {
     "auto rgb = imgref::colours<3>(c, 1, 2); rgb.fill(rgb.whole(), {1, 2, 3}); rgb.flip_columns(); rgb.turn(imgref::turn::half); return rgb.count(rgb.whole(), {1, 2, 3});": 17,
     "auto rgb = imgref::colours<3>(reading, 6, 1, 2, 3); return rgb.get(0, 1)[2];": 17,
     "auto rgb = imgref::colours<3>(reading, 6, 1, 2, 3); rgb.put(0, 1, {1, 2, 3});": 0,
-    **{f"auto rgb = imgref::colours<3>(c, 1, 2); rgb.{it};": 0 for it in ("fill({0, 0, 1, 1})", "fill(rgb.whole(), {1, 2})", "fill(rgb.whole(), {1, 2, 300})", "histogram()", "equalize()", "flood_fill(0, 0, {1, 2, 3})", "bounding_box({1, 2, 3})")},
+    **{f"auto rgb = imgref::colours<3>(c, 1, 2); rgb.{it};": 0 for it in ("fill({0, 0, 1, 1})", "fill(rgb.whole(), {1, 2})", "fill(rgb.whole(), {1, 2, 300})", "histogram()", "equalize()", "flood_fill(0, 0, {1, 2, 3})", "bounding_box({1, 2, 3})", "components_into(n)", "integral_into(n)")},
+    "n.fill({7}); v.integral_into(n); return v.components_into(n) == 1;": 17,
+    "v.blur({0, 0, 1, 1}, 1); v.blur({0, 0, 1, 1}, 1, 2, 1); v.blur(2); auto rgb = imgref::colours<3>(c, 1, 2); rgb.blur(rgb.whole(), 1, 2); rgb.blur(3);": 17,
+    **{f"{it}.blur(1);": 0 for it in ("r", "n", "p")},
     "p.fill({0, 0, 1, 1}, one);": 0,
     "p.fill({0, 0, 1, 1}, {1, 2, 3, 300});": 0,
 }
@@ -192,6 +195,7 @@ struct four { unsigned char c[4]; };
 int main() {
     unsigned char c[6] = {}; const unsigned char *reading = c; const unsigned char one = 1; int number = 7; alignas(4) four colours[6] = {};
     imgref::view<const unsigned char> r(reading, 6, 3, 2, 3); imgref::view<unsigned char> v(c, 3, 2); imgref::view<four> p(colours, 3, 2);
+    std::uint64_t numbers[6] = {}; imgref::view<std::uint64_t> n(numbers, 3, 2);
 """
     file = room / "reading.cpp"
     for standard in (17, 20):
@@ -246,7 +250,7 @@ def check_man(cases, prefix):
     header = (prefix / "include/imgref.h").read_text()
     calls = set(re.findall(r"\b(imgref_\w+)\((?:size_t|(?:const )?uint\d+_t \*)", header)) | {f"imgref_u8_{it}" for it in re.findall(r"imgref_##NAME##_(\w+)\(", header)}
     lacking = [it for it in [*calls, *re.findall(r"#define (IMGREF_[A-Z_]+) \(", header)] if it not in pages.get("imgref.3", "")]
-    cases.count("imgref.3 names each call and status", len(calls) == 5 + 22 + 4 and not lacking, str(lacking))
+    cases.count("imgref.3 names each call and status", len(calls) == 6 + 22 + 5 and not lacking, str(lacking))
     words = set(re.findall(r"(?m)^\| `(\w+) I PATH", (ROOT / "docs/SCRIPT.md").read_text())) | {"image", "compact"}
     lacking = [it for it in words if f'.BI "{it} "' not in pages.get("imgref_run.1", "")]
     cases.count("imgref_run.1 names each command", len(words) > 7 and not lacking, str(lacking))
@@ -270,6 +274,8 @@ def check_programs(cases, prefix):
     cases.count("imgref_frames is installed", (status, wrote) == (0, b"P5\n2 1\n255\nBA"), said)
     status, wrote, said = run([prefix / "bin/imgref-boxes"], input=b"frame,x1,y1,x2,y2\n1,2,3,5,7\n")
     cases.count("imgref-boxes is installed", (status, wrote) == (0, b"1,-1,2,3,3,4\n"), said)
+    lacking = [it for it in ("HIDE.md", "FRAMES.md", "SCRIPT.md") if not (prefix / "share/doc/imgref" / it).is_file()]
+    cases.count("the pages of the programs are installed", not lacking, str(lacking))
     check_hiding(cases, prefix)
 
 
@@ -332,16 +338,19 @@ def main():
     with tempfile.TemporaryDirectory(prefix="c-library-") as room:
         room = pathlib.Path(room)
         if prefix := installed(cases, room):
-            check_names(cases, compiler, prefix)
-            check_c(cases, compiler, prefix, room)
-            check_races(cases, compiler, prefix, room)
-            check_cpp(cases, prefix, room)
-            check_view(cases, prefix, room)
-            check_cmake(cases, prefix, room)
-            check_man(cases, prefix)
-            check_programs(cases, prefix)
-            check_staged(cases, prefix, room)
-            check_letterbox(cases, compiler, prefix, room)
+            checks = (
+                lambda it: check_c(it, compiler, prefix, room),
+                lambda it: check_view(it, prefix, room),
+                lambda it: check_cpp(it, prefix, room),
+                lambda it: check_races(it, compiler, prefix, room),
+                lambda it: check_names(it, compiler, prefix),
+                lambda it: check_cmake(it, prefix, room),
+                lambda it: check_man(it, prefix),
+                lambda it: check_programs(it, prefix),
+                lambda it: check_staged(it, prefix, room),
+                lambda it: check_letterbox(it, compiler, prefix, room),
+            )
+            side_by_side(cases, checks)
     return cases.end()
 
 

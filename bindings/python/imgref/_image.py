@@ -260,6 +260,22 @@ class Image(Layout):
             raise TypeError(f"means are of unsigned numbers of one or two bytes, 'B' or 'H', not of format {self.format!r}")
         _native.mosaic_means(self, window, tile_width, tile_height, self.channels)
 
+    def blur(self, window: Corners, radius: int | tuple[int, int]) -> None:
+        """Each pixel of the window becomes the mean of the box around it, rounded to the nearest
+        number. The box has `radius` pixels on each side. Two numbers are those on the left and on the
+        right, and those above and below. It is cut at the window's edges. Each number of a colour is
+        a mean of its own. The numbers are bytes.
+
+        >>> frame = bytearray([0, 10, 20, 90])
+        >>> Image(frame, 4, 1).blur((0, 0, 4, 1), 1)
+        >>> list(frame)
+        [5, 10, 40, 55]
+        """
+        if self._pixels.cell.code != "B":
+            raise TypeError(f"a blur is of unsigned numbers of one byte, 'B', not of format {self.format!r}")
+        across, down = _reach(radius)
+        _native.blur(self, window, across, down, self.channels)
+
     def pack(self) -> None:
         """Joins the rows at the front of the memory. The stride is that of joined rows from then
         on.
@@ -392,6 +408,16 @@ def _may_be_window(value: Any) -> bool:
         return len(value) == 4
     except TypeError:
         return hasattr(value, "__next__")
+
+
+def _reach(radius: Any) -> tuple[int, int]:
+    """How many pixels a box has on the left and on the right, and how many above and below."""
+    if isinstance(radius, (tuple, list)):
+        if len(radius) != 2:
+            raise ValueError(f"a radius is a number, or two (across, down), not {radius!r}")
+        return index(radius[0]), index(radius[1])
+    number = index(radius)
+    return number, number
 
 
 def _instead(key: Any) -> str:

@@ -65,5 +65,9 @@ def tile_number(width: int, height: int, tile_width: int, tile_height: int, numb
     return f"no such tile: {number} of {count} tiles of {tile_width} by {tile_height} in {width} by {height} pixels"
 
 
+def radius(across: int, down: int) -> str:
+    return f"a blur takes less than 2**15 pixels on each side, and not {across} across and {down} down"
+
+
 def status(number: int) -> str:
     return f"status {number}"

@@ -36,7 +36,7 @@ def equalize(image: Image | Buffer) -> Image:
 
 
 def integral(image: Image | Buffer) -> Image:
-    """The summed areas: each pixel is the sum of the pixels up to its column in the rows up to its own,
+    """The integral image: each pixel is the sum of the pixels up to its column in the rows up to its own,
     as a number of 64 bits. The image has the same size, and the pixels are bytes.
 
     >>> integral(Image(bytes([1, 2, 3, 4]), 2, 2))[1, 1]

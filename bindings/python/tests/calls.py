@@ -33,6 +33,24 @@ def of_a_bytearray():
     check("no cell", Image(bytearray(), 0, 7) == Image(b"", 0, 7, 9))
 
 
+def of_blurs():
+    frame = bytearray([0, 10, 20, 99, 90, 40, 30])
+    image = Image(frame, 3, 2, 4)
+    image.blur(image.whole, 1)
+    check("blur", frame == bytearray([35, 32, 25, 99, 35, 32, 25]))
+    image.blur(Window(0, 1, 3, 1), (0, 5))
+    check("blur of a line, down alone", frame == bytearray([35, 32, 25, 99, 35, 32, 25]))
+    image.blur(Window(3, 2, 0, 0), [32767, 32767])
+    check("blur of no pixel", frame[4:] == bytearray([35, 32, 25]) and Image(bytearray(), 0, 7).blur((0, 0, 0, 7), 2) is None)
+    large = Image(bytearray(k * k % 251 for k in range(300 * 40 * 4)), 300, 40, channels=4)
+    apart, before = Image.copy_of(large), Image.copy_of(large)
+    apart[:, :150].blur((0, 0, 150, 40), (3, 2))
+    large.blur((0, 0, 150, 40), (3, 2))
+    check("a window of a window is blurred as one of the image", large == apart and large[:, 150:] == before[:, 150:] and large != before)
+    shorts = Image(array.array("H", bytes(24)), 4, 3)
+    check("no blur of numbers of two bytes", raises(TypeError, shorts.blur, shorts.whole, 1))
+
+
 def of_other_buffers():
     pixels, plane = array.array("i", [-1, -2, -3, -4, -5, -6]), memoryview(bytes(range(12))).cast("B", (3, 4))
     image = Image(pixels, 2, 3)
@@ -173,6 +191,7 @@ def of_hints():
 
 
 of_a_bytearray()
+of_blurs()
 of_other_buffers()
 of_subinterpreters()
 of_halves()

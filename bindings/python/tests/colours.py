@@ -40,6 +40,16 @@ class Model:
             for x, y in its:
                 self.rows[y][x] = means if isinstance(pixels[0], tuple) else means[0]
 
+    def blur(self, window, radius):
+        (left, top, width, height), (across, down), made = window, radius if isinstance(radius, tuple) else (radius, radius), {}
+        for x, y in places(window):
+            pixels = [self.rows[v][u] for u, v in places(window) if abs(u - x) <= across and abs(v - y) <= down]
+            numbers = zip(*pixels) if isinstance(pixels[0], tuple) else [pixels]
+            means = tuple((2 * sum(it) + len(it)) // (2 * len(it)) for it in numbers)
+            made[x, y] = means if isinstance(pixels[0], tuple) else means[0]
+        for (x, y), it in made.items():
+            self.rows[y][x] = it
+
     def put(self, x, y, value):
         self.rows[y][x] = value
 
@@ -95,7 +105,9 @@ def step(chance, image, pixel):
     calls += [("flip_rows", (window,)), ("flip_columns", (window,)), ("swap_rows", rows)]
     if image.format[-1] in "BH":
         calls.append(("mosaic_means", (window, *tiles)))
-    return chance.choices(calls, [4, 4, 3, 3, 1, 2, 2, 2, 3][: len(calls)])[0]
+    if image.format == "B":
+        calls.append(("blur", (window, chance.choice((chance.randint(0, 3), (chance.randint(0, 9), chance.randint(0, 2)))))))
+    return chance.choices(calls, [4, 4, 3, 3, 1, 2, 2, 2, 3, 3][: len(calls)])[0]
 
 
 def turns(image, rows):

@@ -60,6 +60,7 @@ def main():
         "integral": lambda: integral(image),
         "count": lambda: image.count(image.whole, 1),
         "mosaic_means": lambda: image.mosaic_means(image.whole, 5, 7),
+        "blur": lambda: image.blur(image.whole, (2, 5)),
         "copy_window": lambda: apart.copy_from(image),
         "turned": lambda: image.turned("right"),
         "==": lambda: apart == image,

@@ -111,6 +111,8 @@ def calls(side, channels, value):
         "flip_columns": (lambda i, o, n: i.flip_columns(tuple(n)), [*inner]),
         "swap_rows": (lambda i, o, n: i.swap_rows(*n), [2, 3]),
         "mosaic_means": (lambda i, o, n: i.mosaic_means(tuple(n[:4]), *n[4:]), [*inner, 3, 2]),
+        "blur": (lambda i, o, n: i.blur(tuple(n[:4]), tuple(n[4:])), [*inner, 3, 2]),
+        "blur by a radius": (lambda i, o, n: i.blur(tuple(n[:4]), n[4]), [*inner, 2]),
         "flood_fill": (lambda i, o, n: flood_fill(i, tuple(n[:2]), n[2]), [2, 3, value]),
         "bounding_box": (lambda i, o, n: bounding_box(i, n[0]), [value]),
         "window": (lambda i, o, n: i.window(tuple(n)).tobytes(), [*inner]),
@@ -138,7 +140,7 @@ def of_numbers():
     for side in SIDES:
         for form, channels in (("B", 1), ("d", 1), ("?", 1), ("B", 3), ("H", 4)):
             for name, (_, numbers) in calls(side, channels, 1).items():
-                if name == "mosaic_means" and form not in "BH" or name in ("flood_fill", "bounding_box") and channels > 1:
+                if name == "mosaic_means" and form not in "BH" or "blur" in name and form != "B" or name in ("flood_fill", "bounding_box") and channels > 1:
                     continue
                 for at in range(len(numbers)):
                     change = lambda n, upset: [*n[:at], Number(n[at], upset), *n[at + 1 :]]
@@ -156,6 +158,7 @@ def of_lists():
         "move_window": lambda i, o, upset: i.move_window(listed(small, upset), listed(inner, upset)),
         "mosaic": lambda i, o, upset: i.mosaic(listed(inner, upset), 2, 3),
         "mosaic_means": lambda i, o, upset: i.mosaic_means(listed(inner, upset), 2, 3),
+        "blur": lambda i, o, upset: i.blur(listed(inner, upset), (2, 3)),
         "copy_window of a buffer": lambda i, o, upset: i.copy_window(listed(inner, upset), Told(bytes(range(60)), (5, 4, 3), upset)),
         "count": lambda i, o, upset: i.count(listed(inner, upset), listed((1, 2, 3), upset)),
         "flip_rows": lambda i, o, upset: i.flip_rows(listed(inner, upset)),
@@ -224,7 +227,7 @@ def together(label, work, disturb, image, size):
 
 def of_threads():
     """One thread calls, and another makes the image again, resizes its memory or packs it."""
-    for name in ("fill", "copy_window", "move_window", "mosaic", "turn_into", "turn", "flip_columns", "tobytes", "==", "copy", "flood_fill", "components", "equalize", "histogram"):
+    for name in ("fill", "copy_window", "move_window", "mosaic", "turn_into", "turn", "flip_columns", "tobytes", "==", "copy", "flood_fill", "components", "equalize", "histogram", "blur"):
         image, source = made("B", 1, 512, 7), made("B", 1, 512, 40)
         work = {
             "fill": lambda: image.fill(image.whole, 7),
@@ -241,6 +244,7 @@ def of_threads():
             "components": lambda: components(image),
             "equalize": lambda: equalize(image),
             "histogram": lambda: histogram(image),
+            "blur": lambda: image.blur(image.whole, 2),
         }[name]
         # (as large as before, so that its memory is freed and taken again)
         again = lambda: [it.__init__(bytearray(515 * 512), 512, 512, 515) for it in (image, source)]

@@ -77,6 +77,7 @@ def of_windows():
     refused(f"the window {largest},0,{largest},1 reaches column {2 * largest} of 4", 2, image.flip_rows, (largest, 0, largest, 1))
     refused("the window 3,0,2,1 reaches column 5 of 4", 2, colours.count, (3, 0, 2, 1), 0)
     refused("the window 3,0,2,1 reaches column 5 of 4", 2, colours.mosaic_means, (3, 0, 2, 1), 2, 2)
+    refused("the window 3,0,2,1 reaches column 5 of 4", 2, colours.blur, (3, 0, 2, 1), 2)
     refused("the window 1,0,4,1 reaches column 5 of 4", 2, image.move_window, (0, 0, 4, 1), (1, 0, 4, 1))
     refused("the window 1,0,4,1 reaches column 5 of 4", 2, image.move_window, (1, 0, 4, 1), (0, 9, 4, 1))
     refused("the slice 300:400 begins at row 300 and ends at row 400: the image has 48 rows", 2, lambda: wide[300:400, 0:10])
@@ -121,7 +122,24 @@ def of_pixels():
         for call, words in ((colours.put, (0, 0)), (colours.fill, (colours.whole,)), (colours.fill, ()), (colours.count, (colours.whole,))):
             says(TypeError, f"a colour is 3 numbers in their order, and {given!r} has none", call, *words, given)
     says(TypeError, "means are of unsigned numbers of one or two bytes, 'B' or 'H', not of format '<d'", reals.mosaic_means, reals.whole, 2, 2)
+    says(TypeError, "a blur is of unsigned numbers of one byte, 'B', not of format '<d'", reals.blur, reals.whole, 2)
+    says(TypeError, "for reading alone: copy() makes", fixed.blur, fixed.whole, 2)
+    for call, words in ((imgref.flood_fill, ((0, 0), 1)), (imgref.components, ()), (imgref.bounding_box, (0,))):
+        says(TypeError, "regions are of pixels of 1, 2, 4 or 8 bytes at a multiple of that, and pixels are 3 numbers of format 'B'", call, colours, *words)
+    for call, words in ((imgref.histogram, "a histogram has a count for each value"), (imgref.equalize, "bytes are spread over 0 to 255"), (imgref.integral, "bytes are summed")):
+        says(TypeError, f"{words}, and pixels are 3 numbers of format 'B': take one channel by Image.copy_of", call, colours)
     check("nothing has changed", frame == bytes(range(12)) and not any(colours.tobytes()))
+
+
+def of_radii():
+    for radius, numbers in ((32768, "32768 across and 32768 down"), ((1, 32768), "1 across and 32768 down"), (((1 << 64) - 1, 0), f"{(1 << 64) - 1} across and 0 down")):
+        refused(f"a blur takes less than 2**15 pixels on each side, and not {numbers}", 7, image.blur, image.whole, radius)
+    refused("the window 1,0,4,1 reaches column 5 of 4", 2, image.blur, (1, 0, 4, 1), 32768)
+    says(ValueError, "a radius is a number, or two (across, down), not (1, 2, 3)", image.blur, image.whole, (1, 2, 3))
+    says(ValueError, "no number of pixels, columns or rows: -1", image.blur, image.whole, -1)
+    says(TypeError, "'float' object cannot be interpreted as an integer", image.blur, image.whole, 0.5)
+    says(TypeError, "'float' object cannot be interpreted as an integer", image.blur, image.whole, (1, 0.5))
+    check("nothing has changed by a radius", frame == bytes(range(12)))
 
 
 def of_what_is_raised():
@@ -135,6 +153,8 @@ def of_what_is_raised():
         "move_window": (image.move_window, (0, 0, 2, 2), (0, 0, 2, 2)),
         "mosaic": (image.mosaic, (0, 0, 2, 2), 2, 2),
         "swap_rows": (image.swap_rows, 0, 1),
+        "blur": (image.blur, (0, 0, 2, 2), 0),
+        "blur by two numbers": (image.blur, (0, 0, 2, 2), (0, 0)),
         "Image": (Image, frame, 4, 3),
         "image[y, x]": (image.__getitem__, (0, 0)),
     }
@@ -161,6 +181,7 @@ of_windows()
 of_sizes()
 of_places()
 of_pixels()
+of_radii()
 of_what_is_raised()
 if (numpy := numpy_or_none()) is not None:
     of_numpy(numpy)

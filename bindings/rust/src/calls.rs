@@ -11,6 +11,8 @@ extern "C" {
     pub(crate) fn imgref_u16_histogram(cells: *const u16, len: usize, width: usize, height: usize, stride: usize, counts: *mut u64) -> u32;
     pub(crate) fn imgref_u8_equalize(cells: *mut u8, len: usize, width: usize, height: usize, stride: usize) -> u32;
     pub(crate) fn imgref_u8_integral(cells: *const u8, len: usize, width: usize, height: usize, stride: usize, areas: *mut u64, areas_len: usize, areas_stride: usize) -> u32;
+    pub(crate) fn imgref_blur_room(len: usize, width: usize, height: usize, stride: usize, channels: usize, window: Window, copy_len: *mut usize, sums_len: *mut usize) -> u32;
+    fn imgref_u8_blur(cells: *mut u8, len: usize, width: usize, height: usize, stride: usize, channels: usize, window: Window, across: usize, down: usize, copy: *mut u8, copy_len: usize, sums: *mut u32, sums_len: usize) -> u32;
     fn imgref_u8_mosaic_means(cells: *mut u8, len: usize, width: usize, height: usize, stride: usize, channels: usize, window: Window, tile_width: usize, tile_height: usize) -> u32;
     fn imgref_u16_mosaic_means(cells: *mut u16, len: usize, width: usize, height: usize, stride: usize, channels: usize, window: Window, tile_width: usize, tile_height: usize) -> u32;
 }
@@ -26,10 +28,16 @@ pub trait Cell: Copy + sealed::Sealed {
     /// The call that only cells of one and of two bytes have.
     #[doc(hidden)]
     const MOSAIC_MEANS: Option<MosaicMeans<Self>>;
+    /// The call that only cells of one byte have.
+    #[doc(hidden)]
+    const BLUR: Option<Blur<Self>>;
 }
 
 #[doc(hidden)]
 pub type MosaicMeans<T> = unsafe extern "C" fn(*mut T, usize, usize, usize, usize, usize, Window, usize, usize) -> u32;
+
+#[doc(hidden)]
+pub type Blur<T> = unsafe extern "C" fn(*mut T, usize, usize, usize, usize, usize, Window, usize, usize, *mut u8, usize, *mut u32, usize) -> u32;
 
 #[doc(hidden)]
 pub struct Calls<T> {
@@ -53,7 +61,7 @@ pub struct Calls<T> {
 }
 
 macro_rules! cells {
-    ($($module:ident $cell:ty, $means:expr; $copy_window:literal $move_window:literal $fill_pixels:literal $mosaic_pixels:literal $count:literal $turn_into:literal $transpose_into:literal $turn:literal $transpose:literal $flip_rows:literal $flip_columns:literal $swap_rows:literal $pack:literal $equal:literal $flood_fill:literal $components:literal $bounding_box:literal;)*) => {$(
+    ($($module:ident $cell:ty, $means:expr, $blur:expr; $copy_window:literal $move_window:literal $fill_pixels:literal $mosaic_pixels:literal $count:literal $turn_into:literal $transpose_into:literal $turn:literal $transpose:literal $flip_rows:literal $flip_columns:literal $swap_rows:literal $pack:literal $equal:literal $flood_fill:literal $components:literal $bounding_box:literal;)*) => {$(
         mod $module {
             use super::{sealed, Calls, Cell, Window};
 
@@ -99,6 +107,7 @@ macro_rules! cells {
 
             impl Cell for $cell {
                 const MOSAIC_MEANS: Option<super::MosaicMeans<Self>> = $means;
+                const BLUR: Option<super::Blur<Self>> = $blur;
                 const CALLS: Calls<Self> = Calls { copy_window, move_window, fill_pixels, mosaic_pixels, count, turn_into, transpose_into, turn, transpose, flip_rows, flip_columns, swap_rows, pack, equal, flood_fill, components, bounding_box };
             }
         }
@@ -106,8 +115,8 @@ macro_rules! cells {
 }
 
 cells! {
-    of_u8 u8, Some(super::imgref_u8_mosaic_means); "imgref_u8_copy_window" "imgref_u8_move_window" "imgref_u8_fill_pixels" "imgref_u8_mosaic_pixels" "imgref_u8_count" "imgref_u8_turn_into" "imgref_u8_transpose_into" "imgref_u8_turn" "imgref_u8_transpose" "imgref_u8_flip_rows" "imgref_u8_flip_columns" "imgref_u8_swap_rows" "imgref_u8_pack" "imgref_u8_equal" "imgref_u8_flood_fill" "imgref_u8_components" "imgref_u8_bounding_box";
-    of_u16 u16, Some(super::imgref_u16_mosaic_means); "imgref_u16_copy_window" "imgref_u16_move_window" "imgref_u16_fill_pixels" "imgref_u16_mosaic_pixels" "imgref_u16_count" "imgref_u16_turn_into" "imgref_u16_transpose_into" "imgref_u16_turn" "imgref_u16_transpose" "imgref_u16_flip_rows" "imgref_u16_flip_columns" "imgref_u16_swap_rows" "imgref_u16_pack" "imgref_u16_equal" "imgref_u16_flood_fill" "imgref_u16_components" "imgref_u16_bounding_box";
-    of_u32 u32, None; "imgref_u32_copy_window" "imgref_u32_move_window" "imgref_u32_fill_pixels" "imgref_u32_mosaic_pixels" "imgref_u32_count" "imgref_u32_turn_into" "imgref_u32_transpose_into" "imgref_u32_turn" "imgref_u32_transpose" "imgref_u32_flip_rows" "imgref_u32_flip_columns" "imgref_u32_swap_rows" "imgref_u32_pack" "imgref_u32_equal" "imgref_u32_flood_fill" "imgref_u32_components" "imgref_u32_bounding_box";
-    of_u64 u64, None; "imgref_u64_copy_window" "imgref_u64_move_window" "imgref_u64_fill_pixels" "imgref_u64_mosaic_pixels" "imgref_u64_count" "imgref_u64_turn_into" "imgref_u64_transpose_into" "imgref_u64_turn" "imgref_u64_transpose" "imgref_u64_flip_rows" "imgref_u64_flip_columns" "imgref_u64_swap_rows" "imgref_u64_pack" "imgref_u64_equal" "imgref_u64_flood_fill" "imgref_u64_components" "imgref_u64_bounding_box";
+    of_u8 u8, Some(super::imgref_u8_mosaic_means), Some(super::imgref_u8_blur); "imgref_u8_copy_window" "imgref_u8_move_window" "imgref_u8_fill_pixels" "imgref_u8_mosaic_pixels" "imgref_u8_count" "imgref_u8_turn_into" "imgref_u8_transpose_into" "imgref_u8_turn" "imgref_u8_transpose" "imgref_u8_flip_rows" "imgref_u8_flip_columns" "imgref_u8_swap_rows" "imgref_u8_pack" "imgref_u8_equal" "imgref_u8_flood_fill" "imgref_u8_components" "imgref_u8_bounding_box";
+    of_u16 u16, Some(super::imgref_u16_mosaic_means), None; "imgref_u16_copy_window" "imgref_u16_move_window" "imgref_u16_fill_pixels" "imgref_u16_mosaic_pixels" "imgref_u16_count" "imgref_u16_turn_into" "imgref_u16_transpose_into" "imgref_u16_turn" "imgref_u16_transpose" "imgref_u16_flip_rows" "imgref_u16_flip_columns" "imgref_u16_swap_rows" "imgref_u16_pack" "imgref_u16_equal" "imgref_u16_flood_fill" "imgref_u16_components" "imgref_u16_bounding_box";
+    of_u32 u32, None, None; "imgref_u32_copy_window" "imgref_u32_move_window" "imgref_u32_fill_pixels" "imgref_u32_mosaic_pixels" "imgref_u32_count" "imgref_u32_turn_into" "imgref_u32_transpose_into" "imgref_u32_turn" "imgref_u32_transpose" "imgref_u32_flip_rows" "imgref_u32_flip_columns" "imgref_u32_swap_rows" "imgref_u32_pack" "imgref_u32_equal" "imgref_u32_flood_fill" "imgref_u32_components" "imgref_u32_bounding_box";
+    of_u64 u64, None, None; "imgref_u64_copy_window" "imgref_u64_move_window" "imgref_u64_fill_pixels" "imgref_u64_mosaic_pixels" "imgref_u64_count" "imgref_u64_turn_into" "imgref_u64_transpose_into" "imgref_u64_turn" "imgref_u64_transpose" "imgref_u64_flip_rows" "imgref_u64_flip_columns" "imgref_u64_swap_rows" "imgref_u64_pack" "imgref_u64_equal" "imgref_u64_flood_fill" "imgref_u64_components" "imgref_u64_bounding_box";
 }

@@ -2,9 +2,9 @@
 
 use std::ops::Range;
 
-use crate::calls::{imgref_is_image, imgref_tile, imgref_tile_count, imgref_window, Calls};
+use crate::calls::{imgref_blur_room, imgref_is_image, imgref_tile, imgref_tile_count, imgref_window, Calls};
 use crate::pixels::{Cells, Means};
-use crate::{done, Buffer, BufferMut, Cell, Pixel, Refused, Sample, Turn, Window};
+use crate::{done, Buffer, BufferMut, Cell, Pixel, Radius, Refused, Sample, Turn, Window};
 
 /// A buffer with a width, a height and a stride, all in pixels.
 #[derive(Clone, Copy, Debug)]
@@ -438,6 +438,52 @@ impl<Container: BufferMut> Img<Container> {
     {
         let (is, (cells, len)) = (self.in_colours(channels)?, cells_of_mut(self.buf.cells_mut()));
         done(unsafe { Means::<Container::Pixel>::CALL(cells, len, is.width, is.height, is.stride, is.channels, window, tile_width, tile_height) })
+    }
+
+    /// Each pixel of the window becomes the mean of the box around it, rounded to the nearest number: a
+    /// half goes up. Each cell is a mean of its own, and has one byte. The box has so many pixels on each
+    /// side, or by two numbers on the left and on the right, and above and below. It is cut at the window's
+    /// edges. Allocates a copy of the window, and a number for each cell of a row.
+    ///
+    /// ```
+    /// let mut image = imgref_proved::ImgVec::new(vec![[0u8, 1], [10, 1], [20, 1], [90, 1]], 4, 1)?;
+    /// image.blur(image.whole(), 1)?;
+    /// assert_eq!(image.buf()[..], [[5, 1], [10, 1], [40, 1], [55, 1]]);
+    /// image.blur(image.whole(), (0, 3))?; // across and down
+    /// # Ok::<(), imgref_proved::Refused>(())
+    /// ```
+    ///
+    /// Pixels of other cells don't compile:
+    ///
+    /// ```compile_fail
+    /// let mut image = imgref_proved::ImgVec::new(vec![0u16; 4], 2, 2).unwrap();
+    /// let _ = image.blur(image.whole(), 1);
+    /// ```
+    ///
+    /// # Errors
+    ///
+    /// [`Refused::WindowOutside`], [`Refused::TooLarge`] for a radius of 2^15 or more.
+    pub fn blur(&mut self, window: Window, radius: impl Into<Radius>) -> Result<(), Refused>
+    where
+        Container::Pixel: Sample,
+    {
+        self.blur_pixels(1, window, radius)
+    }
+
+    /// The same for colours of `channels` pixels, as [`Img::fill_pixels`] has them.
+    ///
+    /// # Errors
+    ///
+    /// Those of [`Img::blur`], and [`Refused::NotAnImage`] as in [`Img::fill_pixels`].
+    pub fn blur_pixels(&mut self, channels: usize, window: Window, radius: impl Into<Radius>) -> Result<(), Refused>
+    where
+        Container::Pixel: Sample,
+    {
+        let (is, Radius { across, down }, (mut bytes, mut numbers)) = (self.in_colours(channels)?, radius.into(), (0, 0));
+        let (cells, len) = cells_of_mut(self.buf.cells_mut());
+        done(unsafe { imgref_blur_room(len, is.width, is.height, is.stride, is.channels, window, &mut bytes, &mut numbers) })?;
+        let (mut copy, mut sums) = (vec![0; bytes], vec![0; numbers]);
+        done(unsafe { Means::<Container::Pixel>::BLUR(cells, len, is.width, is.height, is.stride, is.channels, window, across, down, copy.as_mut_ptr(), bytes, sums.as_mut_ptr(), numbers) })
     }
 
     /// Joins the rows at the front of the buffer, over what lies between them: on a window that is its

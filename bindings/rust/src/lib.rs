@@ -49,9 +49,9 @@ pub enum Refused {
     NoTile,
     /// There is no turn of that number.
     NoTurn,
-    /// A sum might not fit its number.
+    /// A sum might not fit its number: a blur's radius is 2^15 or more.
     TooLarge,
-    /// A room has fewer numbers than there are places. No call of this package gives such a room.
+    /// A work buffer is too small. No call of this package gives such a one.
     NoRoom,
 }
 
@@ -112,6 +112,34 @@ impl Window {
     /// The window with its corner in this column and row.
     pub const fn new(left: usize, top: usize, width: usize, height: usize) -> Self {
         Window { left, top, width, height }
+    }
+}
+
+/// How many pixels the box of a blur has on each side of its own: a number for both directions, or two.
+///
+/// ```
+/// use imgref_proved::Radius;
+///
+/// assert_eq!(Radius::from(2), Radius { across: 2, down: 2 });
+/// assert_eq!(Radius::from((2, 0)), Radius { across: 2, down: 0 });
+/// ```
+#[derive(Clone, Copy, Debug, PartialEq, Eq)]
+pub struct Radius {
+    /// On the left and on the right.
+    pub across: usize,
+    /// Above and below.
+    pub down: usize,
+}
+
+impl From<usize> for Radius {
+    fn from(radius: usize) -> Self {
+        Radius { across: radius, down: radius }
+    }
+}
+
+impl From<(usize, usize)> for Radius {
+    fn from((across, down): (usize, usize)) -> Self {
+        Radius { across, down }
     }
 }
 

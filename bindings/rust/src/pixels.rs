@@ -2,7 +2,7 @@
 
 use std::mem::{align_of, size_of, transmute_copy};
 
-use crate::calls::MosaicMeans;
+use crate::calls::{Blur, MosaicMeans};
 use crate::Cell;
 
 /// What a pixel may be: a type that is copied, of 1 to 4 cells, without padding.
@@ -137,13 +137,17 @@ impl<P: Pixel> Single<P> {
     }
 }
 
-/// The call that takes means of such pixels.
+/// The calls that take means of such pixels.
 pub(crate) struct Means<P>(P);
 
 impl<P: Sample> Means<P> {
     pub(crate) const CALL: MosaicMeans<P::Cell> = match P::Cell::MOSAIC_MEANS {
         Some(call) => call,
         None => panic!("means are taken of cells of one and of two bytes"),
+    };
+    pub(crate) const BLUR: Blur<P::Cell> = match P::Cell::BLUR {
+        Some(call) => call,
+        None => panic!("blurs are of cells of one byte"),
     };
 }
 

@@ -7,7 +7,20 @@ use crate::{done, Buffer, BufferMut, Img, ImgVec, Refused, Window};
 
 // SAFETY of the calls below: as of those of images.rs. A table has as many counts as the call writes.
 impl<Container: Buffer<Pixel = u8>> Img<Container> {
-    /// How many pixels have each value: item `v` counts the pixels that are `v`.
+    /// How many pixels have each value: item `v` counts the pixels that are `v`. Colours don't compile,
+    /// here and in [`Img::equalize`] and [`Img::integral`]:
+    ///
+    /// ```compile_fail
+    /// let _ = imgref_proved::ImgVec::new(vec![[0u8; 3]; 4], 2, 2).unwrap().histogram();
+    /// ```
+    ///
+    /// ```compile_fail
+    /// let _ = imgref_proved::ImgVec::new(vec![[0u8; 3]; 4], 2, 2).unwrap().equalize();
+    /// ```
+    ///
+    /// ```compile_fail
+    /// let _ = imgref_proved::ImgVec::new(vec![[0u8; 3]; 4], 2, 2).unwrap().integral();
+    /// ```
     ///
     /// # Errors
     ///
@@ -18,7 +31,7 @@ impl<Container: Buffer<Pixel = u8>> Img<Container> {
         Ok(counts)
     }
 
-    /// The summed areas, in an image of the same size. Each pixel of it is the sum of the pixels up to
+    /// The integral image, of the same size. Each pixel of it is the sum of the pixels up to
     /// its column in the rows up to its own.
     ///
     /// # Errors
@@ -62,6 +75,21 @@ impl<Container: Buffer> Img<Container> {
     /// The regions of connected pixels: the label of each pixel, and how many regions there are. Two
     /// pixels have one label exactly if a path leads from one to the other, over sides and over pixels
     /// of the same bytes. The labels begin at 1. A pixel has one cell. Allocates a number for each place.
+    ///
+    /// Colours of three bytes don't compile, here and in [`Img::bounding_box`] and [`Img::flood_fill`]. As
+    /// three `u8` next to one another their channels are pixels of their own, and mix.
+    ///
+    /// ```compile_fail
+    /// let _ = imgref_proved::ImgVec::new(vec![[0u8; 3]; 4], 2, 2).unwrap().components();
+    /// ```
+    ///
+    /// ```compile_fail
+    /// let _ = imgref_proved::ImgVec::new(vec![[0u8; 3]; 4], 2, 2).unwrap().bounding_box([0; 3]);
+    /// ```
+    ///
+    /// ```compile_fail
+    /// let _ = imgref_proved::ImgVec::new(vec![[0u8; 3]; 4], 2, 2).unwrap().flood_fill(0, 0, [1; 3]);
+    /// ```
     ///
     /// # Errors
     ///

@@ -3,7 +3,7 @@
 use std::cell::Cell as Count;
 use std::panic::{catch_unwind, AssertUnwindSafe};
 
-use super::{Buffer, BufferMut, Img, ImgRef, ImgRefMut, ImgVec, Pixel, Refused, Sample, Turn, Window};
+use super::{Buffer, BufferMut, Img, ImgRef, ImgRefMut, ImgVec, Pixel, Radius, Refused, Sample, Turn, Window};
 
 // 3 by 2 at stride 4: the cells 3, 7 and 8 are padding.
 const CELLS: [u8; 9] = [1, 2, 3, 90, 4, 5, 6, 91, 92];
@@ -359,6 +359,93 @@ fn takes_means_of_colours() {
     assert_eq!(long.into_buf(), [65535, 65535, 2, 2]);
 }
 
+// The mean of the box around a pixel of a window, by going over all pixels of the window.
+fn box_mean<const N: usize>(image: &ImgVec<[u8; N]>, window: Window, (x, y): (usize, usize), radius: Radius) -> [u8; N] {
+    let (mut sums, mut count) = ([0; N], 0);
+    for v in 0..window.height {
+        for u in 0..window.width {
+            if u.abs_diff(x) <= radius.across && v.abs_diff(y) <= radius.down {
+                let pixel = image[(window.left + u, window.top + v)];
+                sums.iter_mut().zip(pixel).for_each(|(sum, it)| *sum += usize::from(it));
+                count += 1;
+            }
+        }
+    }
+    sums.map(|sum| u8::try_from((2 * sum + count) / (2 * count)).unwrap())
+}
+
+// Windows of 7 by 6 pixels at stride 9, with pixels of `N` cells.
+fn blurs_windows<const N: usize>() {
+    let mut next = 1u32;
+    let mut any = || {
+        next = next.wrapping_mul(1_664_525).wrapping_add(1_013_904_223);
+        (next >> 24) as u8
+    };
+    let before = ImgVec::new_stride((0..9 * 6).map(|_| [(); N].map(|()| any())).collect::<Vec<_>>(), 7, 6, 9).unwrap();
+    let windows = [before.whole(), Window::new(2, 1, 4, 3), Window::new(0, 5, 7, 1), Window::new(6, 0, 1, 6), Window::new(3, 3, 0, 2), Window::new(7, 6, 0, 0)];
+    for (window, radius) in windows.into_iter().flat_map(|window| [(0, 0), (1, 1), (2, 0), (0, 3), (7, 1), (32767, 32767)].map(|it| (window, Radius::from(it)))) {
+        let (mut image, mut wanted) = (before.clone(), before.clone().into_buf());
+        image.blur(window, radius).unwrap();
+        for (x, y) in (0..window.height).flat_map(|y| (0..window.width).map(move |x| (x, y))) {
+            wanted[(window.top + y) * 9 + window.left + x] = box_mean(&before, window, (x, y), radius);
+        }
+        assert_eq!(image.into_buf(), wanted, "{window:?} {radius:?}");
+    }
+}
+
+#[test]
+fn blurs_beside_a_model() {
+    blurs_windows::<1>();
+    blurs_windows::<2>();
+    blurs_windows::<3>();
+    blurs_windows::<4>();
+}
+
+#[test]
+fn blurs_colours_and_refuses() {
+    let cells: Vec<u8> = (0..24).map(|it| (it * it) as u8).collect();
+    let mut image = ImgVec::new(cells.clone(), 12, 2).unwrap();
+    let mut colours = ImgVec::new(cells.chunks(3).map(|it| [it[0], it[1], it[2]]).collect::<Vec<_>>(), 4, 2).unwrap();
+    image.blur_pixels(3, Window::new(1, 0, 3, 2), (2, 1)).unwrap();
+    colours.blur(Window::new(1, 0, 3, 2), (2, 1)).unwrap();
+    assert_eq!(image.buf()[..], colours.buf().concat()[..]);
+    assert_ne!(image.buf()[..], cells[..]);
+    let before = image.buf().clone();
+    assert_eq!(colours.blur(Window::new(2, 0, 3, 1), 1), Err(Refused::WindowOutside));
+    assert_eq!(image.blur_pixels(3, Window::new(2, 0, 3, 1), 1), Err(Refused::WindowOutside));
+    assert_eq!(image.blur_pixels(5, Window::new(0, 0, 1, 1), 1), Err(Refused::NotAnImage));
+    assert_eq!(image.blur_pixels(6, Window::new(0, 0, 1, 1), 1), Err(Refused::NotAnImage));
+    for radius in [(32768, 0), (0, 32768), (usize::MAX, usize::MAX)] {
+        assert_eq!(image.blur(image.whole(), radius), Err(Refused::TooLarge));
+    }
+    assert_eq!(image.into_buf(), before);
+    let grey = |it| Rgb8 { red: it, green: it, blue: 7 };
+    let mut image = ImgVec::new(vec![grey(0), grey(10), grey(21)], 3, 1).unwrap();
+    image.blur(image.whole(), 1).unwrap();
+    assert_eq!(image.into_buf(), [grey(5), grey(10), grey(16)]);
+    let mut none = ImgVec::new(Vec::<u8>::new(), 0, 7).unwrap();
+    assert_eq!(none.blur(none.whole(), 3), Ok(()));
+}
+
+// Three bytes next to one another are pixels of their own: regions and values mix their channels. Four bytes may be one pixel.
+#[test]
+fn mixes_channels_of_single_bytes() {
+    let mut image = ImgVec::new(vec![200u8, 0, 7, 7, 0, 200], 6, 1).unwrap();
+    image.flood_fill(2, 0, 9).unwrap();
+    assert_eq!(image.buf()[..], [200, 0, 9, 9, 0, 200]);
+    let (labels, count) = image.components().unwrap();
+    assert_eq!((count, labels.into_buf()), (5, vec![1, 2, 3, 3, 4, 5]));
+    assert_eq!((image.bounding_box(200), image.histogram().unwrap()[9]), (Ok(Some(Window::new(0, 0, 6, 1))), 2));
+    assert_eq!(image.integral().unwrap().into_buf(), [200, 200, 209, 218, 218, 418]);
+    image.mosaic(Window::new(0, 0, 2, 1), 2, 1).unwrap();
+    image.equalize().unwrap();
+    assert_eq!(image.into_buf(), [255, 255, 127, 127, 42, 255]);
+    let mut whole = ImgVec::new([[1u8, 2, 3, 4], [1, 2, 3, 4], [4, 3, 2, 1]].map(u32::from_ne_bytes).to_vec(), 3, 1).unwrap();
+    assert_eq!(whole.components().unwrap().1, 2);
+    whole.flood_fill(0, 0, 7).unwrap();
+    assert_eq!(whole.into_buf(), [7, 7, u32::from_ne_bytes([4, 3, 2, 1])]);
+}
+
 fn calls_on<T: Pixel + PartialEq + std::fmt::Debug>(least: T, most: T) {
     let mut image = ImgVec::new_stride(vec![least; 7], 3, 2, 4).unwrap();
     image.fill_window(Window::new(1, 0, 2, 2), most).unwrap();
@@ -430,7 +517,7 @@ impl BufferMut for Shrinking {
 #[test]
 fn trusts_no_buffer_from_call_to_call() {
     type Call = fn(&mut Img<Shrinking>) -> bool;
-    let calls: [(&str, Call); 20] = [
+    let calls: [(&str, Call); 21] = [
         ("get", |it| it.get(7, 7).is_ok()),
         ("put", |it| it.put(7, 7, 99).is_ok()),
         ("fill_window", |it| it.fill_window(it.whole(), 99).is_ok()),
@@ -446,6 +533,7 @@ fn trusts_no_buffer_from_call_to_call() {
         ("flip_columns", |it| it.flip_columns().is_ok()),
         ("swap_rows", |it| it.swap_rows(0, 7).is_ok()),
         ("mosaic_means", |it| it.mosaic_means(2, Window::new(0, 0, 4, 8), 4, 8).is_ok()),
+        ("blur", |it| it.blur(it.whole(), 2).is_ok()),
         ("as_contiguous_buf", |it| it.as_contiguous_buf().is_ok()),
         ("sub_image_mut", |it| it.sub_image_mut(0, 1, 8, 7).and_then(|mut it| it.fill_window(it.whole(), 99)).is_ok()),
         ("rows_mut", |it| it.rows_mut().map(|row| row.fill(99)).count() == 8),

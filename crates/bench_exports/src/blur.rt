@@ -1,4 +1,4 @@
-//! The blur, which the library for C doesn't export.
+//! The blur as the crate has it, without the tests of the call for C.
 
 ghost use Rattle.std.specs.Prelude.{◌≡◌, ◌<◌, ◌≤◌, ◌%◌, ◌^◌, length};
 ghost use Rattle.bench_exports.specs.Cells.{IsImage};

@@ -1,6 +1,6 @@
 //! Buffers that grow within their capacity, so that memory is touched only as bytes arrive.
 
-ghost use Rattle.std.specs.Prelude.{◌≡◌, ℕ, List, Option, ◌<◌, ◌≤◌, ◌+◌, IfOk, length, take, vec_capacity};
+ghost use Rattle.std.specs.Prelude.{◌≡◌, ℕ, List, Option, ◌<◌, ◌≤◌, ◌+◌, ◌-◌, ◌^◌, ◌++◌, IfOk, length, max, replicate, take, vec_capacity};
 ghost use Rattle.std.specs.Io.KnownBytes.{Consumes, IsAtEnd};
 ghost use Rattle.devices.specs.Device.{device_of, failures_of, errors};
 
@@ -11,13 +11,15 @@ use std::io::Read;
 // So many bytes of a buffer are touched before they are read.
 const AHEAD: usize = 1 << 20;
 
-/// Makes a buffer at least so long, within its capacity. The new bytes are 0.
+/// Makes a buffer so long within its capacity, where it is shorter. The new bytes are 0.
 ///
 /// # Requires
 ///
 /// The capacity of the buffer is as large.
 pub fn lengthen(buffer: &mut Vec<u8>, len: usize)
     requires { len ≤ vec_capacity buffer.old }
+    ensures exact { buffer.new.items
+        ≡ buffer.old.items ++ replicate (len - length buffer.old.items) 0 }
     ensures len { len ≤ length buffer.new.items }
     ensures front { (n : ℕ) → n ≤ length buffer.old.items
         → take n buffer.new.items ≡ take n buffer.old.items }
@@ -52,7 +54,7 @@ fn fill_part<R: Read>(
 
 /// Fills the front of the buffer, so many bytes, as far as the reader goes. Returns the number of
 /// bytes read, which is less only where the reader is at its end. The buffer becomes longer within
-/// its capacity, and only as bytes arrive.
+/// its capacity, and only as bytes arrive: by at most 1 MiB more than were read.
 ///
 /// # Requires
 ///
@@ -69,6 +71,9 @@ pub fn fill_front<R: Read>(
     ensures bytes { IfOk result (λ n. Consumes (R.remaining (device_of reader.old))
         (R.remaining (device_of reader.new)) (take n buffer.new.items)) }
     ensures end { IfOk result (λ n. n < size → IsAtEnd (R.remaining (device_of reader.new))) }
+    ensures ahead { IfOk result
+        (λ n. length buffer.new.items ≤ max (length buffer.old.items) (n + 2 ^ 20)) }
+    ensures most { length buffer.new.items ≤ max (length buffer.old.items) size }
     ensures capacity { vec_capacity buffer.old ≤ vec_capacity buffer.new }
     ensures count { failures_of reader.new ≡ failures_of reader.old + errors result }
 {

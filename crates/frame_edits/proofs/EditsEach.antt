@@ -1,15 +1,15 @@
 -- Edits that are taken from words one after the other.
-use Rattle.std.proofs.Common.{◌≡◌, ◌≢◌, ℕ, zero, suc, ◌<◌, List, [], ◌∷◌, ◌++◌, Option, Some, None, true, false, eqb, length, take, drop, refl, sym, ap, ◌∙◌, subst, arith, append_assoc, append-nil, inl, inr}
+use Rattle.std.proofs.Common.{◌≡◌, ◌==◌, if◌then◌else◌, ◌≢◌, ℕ, zero, suc, ◌<◌, List, [], ◌∷◌, ◌++◌, Option, Some, None, true, false, eqb, length, take, drop, refl, sym, ap, ◌∙◌, subst, arith, append_assoc, append-nil, inl, inr}
 use Rattle.std.specs.List.{flat_map}
 use Rattle.std.proofs.Math.Seq.{take-append_seam}
-use Rattle.std.specs.Option.{option_map}
+use Rattle.std.specs.Option.{is_some, option_map}
 use Rattle.std.proofs.lemmas.Bool.Decides.{eqb_tells}
 use Rattle.text_model.proofs.Options.{some_is, map_some}
 use Rattle.frame_edits.specs.declared.words.Edit.{Edit}
 use Rattle.frame_edits.specs.declared.framing.Framing.{Framing}
 use Rattle.frame_edits.specs.declared.lists.Edits.{Edits}
-use Rattle.frame_edits.specs.declared.lists.Found.{Found}
-use Rattle.frame_edits.specs.Lists.{AreEdits, Adds, NeedsMemory, framing_after, edit_of, with_one, with_words, with_line, with_lines, plain, IsEditLine, NeedsPlace, framing_of, named_of, steps_of}
+use Rattle.frame_edits.specs.declared.found.Found.{Found}
+use Rattle.frame_edits.specs.Lists.{AreEdits, Adds, HaveEdits, NeedsMemory, framing_after, edit_of, with_one, with_words, with_line, with_lines, plain, IsEditLine, NeedsPlace, named_of}
 use Rattle.frame_lists.specs.Lines.{line_words}
 use Rattle.frame_edits.specs.Edits.{edits, Edits as Plain}
 use Rattle.text_model.specs.Reading.{◌>>=◌}
@@ -86,10 +86,6 @@ place_later old mid line left lines is taken p = record {
   edit = p.edit;
 }
 
--- the words of a line, where there is one
-pub line_of : (old : Plain) (line word : List ℕ) (words : List (List ℕ)) → line_words line ≡ word ∷ words → with_line old line ≡ with_one old (word ∷ words)
-line_of old line word words is = ap (with_words old) is
-
 -- ---- words that are one edit
 
 same_eqb : (a b : ℕ) → a ≡ b → eqb a b ≡ true
@@ -99,27 +95,42 @@ other_eqb : (a b : ℕ) → (a ≡ b → ⊥) → eqb a b ≡ false
 other_eqb a b e = elim (eqb_tells a b) [ inl t ↦ absurd (e t.1) | inr t ↦ t.0 ]
 
 -- the edit at the front has all words
-pub one_found : (words : List (List ℕ)) (old : Plain) (found : Found) (n : ℕ) → edit_at words ≡ Some (named_of found n) → old.framing ≡ None → n ≡ length words → with_one old words ≡ Some (edits (old.steps ++ steps_of found) (framing_of found))
-one_found words old found n is first all = grind (arith, same_eqb)
-
-pub one_there : (words : List (List ℕ)) (old : Plain) (found : Found) (n : ℕ) → edit_at words ≡ Some (named_of found n) → old.framing ≡ None → n ≡ length words → with_one old words ≢ None
-one_there words old found n is first all = λ none. let both : Some (edits (old.steps ++ steps_of found) (framing_of found)) ≡ None = sym (one_found words old found n is first all) ∙ none in absurd cc
-
--- more steps are others
-grown : (xs ys : List Edit) → ys ≢ [] → xs ++ ys ≢ xs
-grown [] ys some same = some same
-grown (x ∷ xs) ys some same = grown xs ys some (ap (drop 1) same)
-
-pub one_grows : (words : List (List ℕ)) (old : Plain) (found : Found) (n : ℕ) → edit_at words ≡ Some (named_of found n) → old.framing ≡ None → n ≡ length words → steps_of found ≢ [] → IfSome (with_one old words) (λ new. new.steps ≢ old.steps)
-one_grows words old found n is first all some = subst (λ (o : Option Plain). IfSome o (λ new. new.steps ≢ old.steps)) (sym (one_found words old found n is first all)) (grown old.steps (steps_of found) some)
+pub words_one : (words : List (List ℕ)) (found : Found) (n : ℕ) → edit_at words ≡ Some (named_of found n) → n ≡ length words → edit_of words ≡ Some (named_of found (length words))
+words_one words found n is all = grind (arith, same_eqb)
 
 -- it has fewer
-pub fewer_found : (words : List (List ℕ)) (old : Plain) (found : Found) (n : ℕ) → edit_at words ≡ Some (named_of found n) → (n ≡ length words → ⊥) → with_one old words ≡ None
-fewer_found words old found n is fewer = grind (arith, other_eqb)
+pub words_fewer : (words : List (List ℕ)) (found : Found) (n : ℕ) → edit_at words ≡ Some (named_of found n) → (n ≡ length words → ⊥) → edit_of words ≡ None
+words_fewer words found n is fewer = grind (arith, other_eqb)
 
--- there is none, or one would come after a crop or a pad
-pub none_taken : (words : List (List ℕ)) (old : Edits) → (old.framing ≡ None → edit_at words ≡ None) → with_one (plain old) words ≡ None
-none_taken words old none = grind arith
+-- there is none
+pub words_none : (words : List (List ℕ)) → edit_at words ≡ None → edit_of words ≡ None
+words_none words none = ap (λ (o : Option Named). o >>= λ e. if e.count == length words then Some e else None) none
+
+-- ---- words that are edits
+
+-- one edit at the front, and then others
+pub edits_more : (words : List (List ℕ)) (framing : Option Framing) (e : Named) → framing ≡ None → edit_at words ≡ Some e → HaveEdits e.framing (drop e.count words) → HaveEdits framing words
+edits_more words framing e first is more = (e ∷ more.0, (first, is, more.1))
+
+-- edits that some words are, without the one at the front
+pub edits_fewer : (words : List (List ℕ)) (framing : Option Framing) (e : Named) (es : List Named) → edit_at words ≡ Some e → 0 < length words → AreEdits es framing words → HaveEdits e.framing (drop e.count words)
+edits_fewer words framing e [] is some are = absurd (let none : length words ≡ 0 = ap length are in omega (arith, none, some))
+edits_fewer words framing e (x ∷ xs) is some are =
+    let same : x ≡ e = some_is x e (sym are.1 ∙ is) in
+    (xs, subst (λ (n : Named). AreEdits xs n.framing (drop n.count words)) same are.2)
+
+-- there are none where the first words are no edit, or come after a crop or a pad
+pub no_edits : (words : List (List ℕ)) (framing : Option Framing) (es : List Named) → edit_at words ≡ None → 0 < length words → AreEdits es framing words → ⊥
+no_edits words framing [] none some are = absurd (let empty : length words ≡ 0 = ap length are in omega (arith, empty, some))
+no_edits words framing (e ∷ es) none some are = let bad : Some e ≡ None = sym are.1 ∙ none in absurd cc
+
+pub no_room : (words : List (List ℕ)) (framing : Option Framing) (es : List Named) → is_some framing ≡ true → 0 < length words → AreEdits es framing words → ⊥
+no_room words framing [] late some are = absurd (let empty : length words ≡ 0 = ap length are in omega (arith, empty, some))
+no_room words framing (e ∷ es) late some are = let bad : true ≡ false = sym late ∙ ap is_some are.0 in absurd cc
+
+pub none_of : {A : Type 0} (found : Option A) → is_some found ≡ false → found ≡ None
+none_of None bad = refl
+none_of (Some x) bad = absurd cc
 
 -- ---- lines
 

@@ -1,24 +1,21 @@
 -- No edit has more than four words.
-use Rattle.std.proofs.Common.{◌≡◌, ℕ, ◌+◌, ◌<◌, ◌≤◌, ◌++◌, Bool, true, false, cond, eqb, List, [], ◌∷◌, Option, Some, None, length, refl, arith, inl, inr}
+use Rattle.std.proofs.Common.{◌≡◌, ℕ, ◌+◌, ◌<◌, ◌≤◌, Bool, true, false, cond, List, [], ◌∷◌, Option, Some, None, length, refl, arith, inl, inr}
 use Rattle.std.specs.Prelude.{◌==◌, if◌then◌else◌, IfSome, codes}
 use Rattle.std.specs.Str.{bytes_eq}
-use Rattle.std.specs.Option.{option_map, is_none}
+use Rattle.std.specs.Option.{option_map}
 use Rattle.std.proofs.lemmas.Bool.Decides.{eqb_tells}
 use Rattle.text_model.specs.Reading.{◌>>=◌, number_of, window_of}
 use Rattle.image_shape.specs.declared.window.Window.{Window}
-use Rattle.image_planes.specs.declared.change.Change.{Change}
 use Rattle.image_planes.specs.declared.change.Axes.{Axes}
 use Rattle.image_planes.specs.declared.target.Quarter.{Quarter}
 use Rattle.frame_lists.specs.Ranges.{range_of}
 use Rattle.frame_lists.specs.declared.ranges.Range.{Range}
 use Rattle.frame_edits.specs.declared.framing.Framing.{Framing}
-use Rattle.frame_edits.specs.declared.paint.Paint.{Paint}
 use Rattle.frame_edits.specs.declared.words.Edit.{Edit}
 use Rattle.frame_edits.specs.declared.words.Scope.TheVariants.{Exact}
 use Rattle.frame_edits.specs.declared.framing.Framing.TheVariants.{Crop}
 use Rattle.frame_lists.specs.declared.ranges.Range.TheVariants.{Frames}
-use Rattle.frame_edits.specs.Edits.{Edits, edits}
-use Rattle.frame_edits.specs.Lists.{edit_of, with_one}
+use Rattle.frame_edits.specs.Lists.{edit_of}
 use Rattle.frame_edits.specs.Words.{Named, axes_of, change_at, change_of, cover_at, cover_by, edit_at, flip_by, framing_at, framing_by, named, other_at, pad_at, quarter_of, ranged_at, ranged_by, rectangle_of, step_at, turn_by}
 
 -- what is found has at most so many words
@@ -116,11 +113,7 @@ no_edit : (e : Option Named) (words : List (List ℕ)) → IfSome e (λ x. x.cou
 no_edit None words few many = refl
 no_edit (Some e) words few many = elim (eqb_tells e.count (length words)) [ inl t ↦ absurd (omega (arith, t.1, few, many)) | inr t ↦ rw t.0 refl ]
 
-none_with : (b : Bool) (old : Edits) (e : Option Named) → e ≡ None → cond b (option_map (λ x. edits (old.steps ++ x.steps) x.framing) e) None ≡ None
-none_with true old e none = rw none refl
-none_with false old e none = refl
-
-pub too_many : (old : Edits) (a b c d e : List ℕ) (words : List (List ℕ)) → with_one old (a ∷ (b ∷ (c ∷ (d ∷ (e ∷ words))))) ≡ None
-too_many old a b c d e words =
+pub too_many : (a b c d e : List ℕ) (words : List (List ℕ)) → edit_of (a ∷ (b ∷ (c ∷ (d ∷ (e ∷ words))))) ≡ None
+too_many a b c d e words =
     let all : List (List ℕ) = a ∷ (b ∷ (c ∷ (d ∷ (e ∷ words)))) in
-    none_with (is_none old.framing) old (edit_of all) (no_edit (edit_at all) all (named_few (framing_at all) (ranged_at all) (framing_few all) (ranged_few all)) (omega arith))
+    no_edit (edit_at all) all (named_few (framing_at all) (ranged_at all) (framing_few all) (ranged_few all)) (omega arith)

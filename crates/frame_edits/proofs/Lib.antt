@@ -1,5 +1,4 @@
-pub mod BoxSizes
-pub mod EachBox
+pub mod EditLines
 pub mod EditsEach
 pub mod FewWords
 pub mod HeldEach

@@ -1,5 +1,5 @@
 -- The covers that the boxes of a tracker's list become.
-use Rattle.std.specs.Prelude.{◌≡◌, ℕ, ◌-◌, List, Option, Some, IsPermutation}
+use Rattle.std.specs.Prelude.{◌≡◌, ℕ, ◌-◌, List, Option, Some, map, IsPermutation}
 use Rattle.std.specs.List.Sorted.{IsNonDecreasingBy, IsStableByKey}
 use Rattle.std.specs.Ordering.{nat_cmp}
 use Rattle.image_planes.specs.declared.change.Change.TheVariants.{Fill}
@@ -31,8 +31,8 @@ first_of e = first_in e.range
 
 -- the covers of all boxes of a text, in the order of their frames; those of one frame in that of their lines
 pub record AreCovers (style : BoxStyle) (text : List ℕ) (covers : List Edit) : Type 0 where
-  pub read : List Edit
-  pub are : each_box (cover_of style) text ≡ Some read
-  pub same : IsPermutation read covers
-  pub stable : IsStableByKey first_of nat_cmp read covers
+  pub read : List Tracked
+  pub are : each_box text ≡ Some read
+  pub same : IsPermutation (map (cover_of style) read) covers
+  pub stable : IsStableByKey first_of nat_cmp (map (cover_of style) read) covers
   pub in_order : IsNonDecreasingBy first_of covers

@@ -1,9 +1,9 @@
 -- What a cover is in a frame: a fill of whole samples, with a margin.
-use Rattle.std.specs.Prelude.{ℕ, ◌<◌, ◌≤◌, ◌+◌, ◌-◌, ◌*◌, ◌%◌, ◌==◌, ◌||◌, ◌&&◌, Bool, true, false, nat_le, if◌then◌else◌, Option, Some, None, min, max}
+use Rattle.std.specs.Prelude.{◌≡◌, ℕ, ◌<◌, ◌≤◌, ◌+◌, ◌-◌, ◌*◌, ◌%◌, ◌==◌, ◌||◌, ◌&&◌, Bool, true, false, nat_le, if◌then◌else◌, Option, Some, None, min, max}
 use Rattle.image_shape.specs.declared.window.Window.{Window}
 use Rattle.image_planes.specs.declared.change.Change.{Change}
 use Rattle.image_planes.specs.declared.change.Change.TheVariants.{Fill, Mosaic, Mean, Blur, Move, Flip}
-use Rattle.image_planes.specs.declared.change.Axes.TheVariants.{Rows, Columns, Both}
+use Rattle.image_planes.specs.declared.change.Axes.TheVariants.{Rows, Both}
 use Rattle.frame_lists.specs.Ranges.{frames_in}
 use Rattle.frame_heads.specs.declared.rate.Rate.{Rate}
 use Rattle.frame_edits.specs.Words.{no_window}
@@ -11,11 +11,11 @@ use Rattle.frame_edits.specs.declared.words.Edit.{Edit}
 use Rattle.frame_edits.specs.declared.words.Scope.{Scope}
 use Rattle.frame_edits.specs.declared.words.Scope.TheVariants.{Exact, Boxed}
 use Rattle.frame_edits.specs.declared.covers.Unit.{Unit as Samples}
+use Rattle.frame_heads.specs.Format.{sampling}
 use Rattle.frame_heads.specs.declared.header.Chroma.{Chroma}
-use Rattle.frame_heads.specs.declared.header.Chroma.TheVariants.{Mono, Small, Wide, Quarter, Whole, WholeAlpha}
 use Rattle.frame_heads.specs.declared.header.Format.{Format}
 use Rattle.frame_edits.specs.declared.paint.Paint.{Paint}
-use Rattle.frame_edits.specs.declared.paint.Paint.TheVariants.{Grey, Black, Colour, Around}
+use Rattle.frame_edits.specs.declared.paint.Paint.TheVariants.{Grey, Black, Around}
 use Rattle.frame_lists.specs.Boxes.{Has}
 
 abbrev pub unit : ℕ → ℕ → Samples
@@ -28,12 +28,7 @@ pub record IsUnit (s : Samples) : Type 0 where
 
 -- how many columns and rows of pixels share a chroma sample
 abbrev pub chroma_unit : Chroma → Samples
-chroma_unit Mono = unit 1 1
-chroma_unit Small = unit 2 2
-chroma_unit Wide = unit 2 1
-chroma_unit Quarter = unit 4 1
-chroma_unit Whole = unit 1 1
-chroma_unit WholeAlpha = unit 1 1
+chroma_unit chroma = unit (sampling chroma).0 (sampling chroma).1
 
 -- the same with the samples of both fields
 abbrev pub video_unit : Format → Samples
@@ -123,21 +118,31 @@ drawn_by (Boxed margin) s width height change = box_window s margin width height
 abbrev pub drawn : Samples → ℕ → ℕ → Edit → Window
 drawn s width height e = drawn_by e.scope s width height e.change
 
--- in one direction, a pixel of the frame is at most so many pixels beside the pixels of a box, whose numbers count from 2 ^ 32 before the frame
-abbrev pub IsNear : ℕ → ℕ → ℕ → ℕ → Type 0
-IsNear margin start count x = (start ≤ x + 4294967296 + margin) × (x + 4294967296 < start + count + margin)
+-- in one direction, a pixel of the frame is at most so many pixels beside those of a rectangle, whose numbers count from so many pixels before the frame
+abbrev pub IsNear : ℕ → ℕ → ℕ → ℕ → ℕ → Type 0
+IsNear before margin start count x = (start ≤ x + before + margin) × (x + before < start + count + margin)
 
--- a window has each pixel of a frame of this size that is in a box or in its margin, which is the same on all sides
-abbrev pub HasMargin : Samples → Option ℕ → ℕ → ℕ → Window → Window → Type 0
-HasMargin s margin width height box w = (x y : ℕ) → x < width → y < height → IsNear (margin_of margin s.across) box.left box.width x → IsNear (margin_of margin s.down) box.top box.height y → Has w x y
+-- a window has each pixel of a frame of this size that is in a rectangle or in its margin, which is the same on all sides
+abbrev pub HasMargin : ℕ → Samples → Option ℕ → ℕ → ℕ → Window → Window → Type 0
+HasMargin before s margin width height box w = (x y : ℕ) → x < width → y < height → IsNear before (margin_of margin s.across) box.left box.width x → IsNear before (margin_of margin s.down) box.top box.height y → Has w x y
 
-abbrev pub KeepsMarginBy : Scope → Samples → ℕ → ℕ → Window → Window → Type 0
-KeepsMarginBy Exact s width height box w = Unit {0}
-KeepsMarginBy (Boxed margin) s width height box w = HasMargin s margin width height box w
+-- the same of a cover; the window of any other edit is the one that it names
+abbrev pub KeepsAround : Samples → ℕ → ℕ → Window → Paint → Window → Type 0
+KeepsAround s width height old (Around value margin) w = HasMargin 0 s margin width height old w
+KeepsAround s width height old paint w = w ≡ old
 
--- the same of an edit, where it is a box
+abbrev pub KeepsExact : Samples → ℕ → ℕ → Change Paint → Window → Type 0
+KeepsExact s width height (Fill old paint) w = KeepsAround s width height old paint w
+KeepsExact s width height change w = w ≡ window_of change
+
+-- the numbers of a box count from 2 ^ 32 before the frame
+abbrev pub KeepsMarginBy : Scope → Samples → ℕ → ℕ → Change Paint → Window → Type 0
+KeepsMarginBy Exact s width height change w = KeepsExact s width height change w
+KeepsMarginBy (Boxed margin) s width height change w = HasMargin 4294967296 s margin width height (window_of change) w
+
+-- the window of an edit has its margin, where it is a cover or a box
 abbrev pub KeepsMargin : Samples → ℕ → ℕ → Edit → Window → Type 0
-KeepsMargin s width height e w = KeepsMarginBy e.scope s width height (window_of e.change) w
+KeepsMargin s width height e w = KeepsMarginBy e.scope s width height e.change w
 
 -- whether a change puts rows of one field where those of the other were: the last rows come first
 abbrev pub turns_over : Change Paint → Bool

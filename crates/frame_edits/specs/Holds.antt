@@ -47,7 +47,7 @@ held style hold bs = flat_map (held_at style hold bs) (range_with_len 0 (length 
 -- the covers of all boxes of a text that are held for so many frames, in the order of their frames; those that begin at one frame in that of their tracks
 pub record AreHeld (style : BoxStyle) (text : List ℕ) (hold : ℕ) (covers : List Edit) : Type 0 where
   pub read : List Tracked
-  pub are : each_box (λ b. b) text ≡ Some read
+  pub are : each_box text ≡ Some read
   pub tracked : List Tracked
   pub same : IsPermutation read tracked
   pub by_tracks : AreByTracks tracked

@@ -7,8 +7,10 @@ use Rattle.frame_edits.specs.Edits.{edits, Edits as Plain}
 use Rattle.frame_edits.specs.Words.{Named, edit_at}
 use Rattle.frame_edits.specs.declared.framing.Framing.{Framing}
 use Rattle.frame_edits.specs.declared.lists.Edits.{Edits}
-use Rattle.frame_edits.specs.declared.lists.Found.{Found}
-use Rattle.frame_edits.specs.declared.lists.Found.TheVariants.{Step, Size}
+use Rattle.frame_edits.specs.declared.found.Found.{Found}
+use Rattle.frame_edits.specs.declared.found.Found.TheVariants.{Step, Size}
+use Rattle.frame_edits.specs.declared.found.Line.{Line}
+use Rattle.frame_edits.specs.declared.found.Line.TheVariants.{Blank, Edit as One, Bad}
 use Rattle.frame_edits.specs.declared.words.Edit.{Edit}
 use Rattle.frame_lists.specs.Lines.{line_words}
 
@@ -33,6 +35,10 @@ pub record Adds (words : List (List ℕ)) (old new : Edits) : Type 0 where
 abbrev pub AddsNone : List (List ℕ) → Edits → Type 0
 AddsNone words old = (edits : List Named) → AreEdits edits old.framing words → ⊥
 
+-- words are edits, one after the other
+abbrev pub HaveEdits : Option Framing → List (List ℕ) → Type 0
+HaveEdits framing words = (edits : List Named) × AreEdits edits framing words
+
 -- the first of some words are an edit with a step, and there is no crop or pad yet: a place for the step needs memory
 abbrev pub NeedsMemory : Option Framing → List (List ℕ) → Type 0
 NeedsMemory framing words = (framing ≡ None) × (edit_at words ≢ None) × IfSome (edit_at words) (λ e. e.steps ≢ [])
@@ -54,6 +60,12 @@ named_of found count = record { steps = steps_of found; framing = framing_of fou
 -- the edit that words are, all of them
 abbrev pub edit_of : List (List ℕ) → Option Named
 edit_of words = edit_at words >>= λ e. if e.count == length words then Some e else None
+
+-- what the words of a line are: none, one edit, or anything else
+abbrev pub WordsAre : List (List ℕ) → Line → Type 0
+WordsAre words Blank = words ≡ []
+WordsAre words (One found) = (words ≢ []) × (edit_of words ≡ Some (named_of found (length words)))
+WordsAre words Bad = (words ≢ []) × (edit_of words ≡ None)
 
 -- edits with one more, where there is no crop or pad yet
 abbrev pub with_one : Plain → List (List ℕ) → Option Plain

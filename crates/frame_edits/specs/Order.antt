@@ -1,5 +1,5 @@
 -- Edits that come too late to hide what an earlier one of the same frames may show.
-use Rattle.std.specs.Prelude.{ℕ, ◌&&◌, Bool, true, false, not, nat_lt, List, [], ◌∷◌, Option, Some, None}
+use Rattle.std.specs.Prelude.{ℕ, ◌&&◌, Bool, true, not, nat_lt, List, [], ◌∷◌, Option, Some, None}
 use Rattle.std.specs.List.{list_any}
 use Rattle.image_planes.specs.Filled.{fills, spreads}
 use Rattle.frame_lists.specs.declared.ranges.Range.{Range}

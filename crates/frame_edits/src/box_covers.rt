@@ -1,10 +1,9 @@
 //! The covers that the boxes of a tracker's list become.
 
-ghost use Rattle.std.specs.Prelude.{◌≡◌, ◌≤◌, ◌<◌, All, IsPermutation, Some, None, IfOk, IfErr, IsOk, OnOk, IsTrue, length, map};
+ghost use Rattle.std.specs.Prelude.{◌≡◌, ◌≤◌, ◌<◌, All, IsPermutation, Some, None, IfOk, IfErr, IsOk, OnOk, length, map};
 ghost use Rattle.std.specs.List.Sorted.{IsNonDecreasingBy, IsStableByKey};
 ghost use Rattle.std.specs.Ordering.{nat_cmp};
-ghost use Rattle.text_model.specs.Parts.{parts_of};
-ghost use Rattle.frame_lists.specs.Boxes.{IsBox, TouchesExactly, each_box, begins_with_box, window_of_box};
+ghost use Rattle.frame_lists.specs.Boxes.{HasBoxes, IsBox, TouchesExactly, each_box, window_of_box};
 ghost use Rattle.frame_edits.specs.BoxCovers.{cover_of, first_of, AreCovers};
 
 use crate::covers::with_window;
@@ -61,13 +60,12 @@ pub fn cover_of(style: BoxStyle, tracked: Tracked) -> Edit
 }
 
 // The covers of boxes, in their order.
-#[tactic(auto, using(crate::proofs::BoxSizes::is_box))]
 fn cover_all(
     alloc: Global,
     style: BoxStyle,
     boxes: &[Tracked],
 ) -> Result<Vec<Edit>, AllocFailed<Edit>>
-    requires { All (IsBox 32) boxes.now }
+    requires { All (IsBox 34) boxes.now }
     ensures covers { IfOk result (λ covers. covers.items ≡ map (cover_of style) boxes.now) }
     ensures none { length boxes.now ≡ 0 → IsOk result }
 {
@@ -113,16 +111,12 @@ pub(crate) fn put_in_order(covers: &mut Vec<Edit>) -> Result<(), AllocError>
 ///
 /// # Errors
 ///
-/// `NoEdit` where a line is no box. `Memory` only where the first line with a word is one.
-#[tactic(auto, using(crate::proofs::EachBox::begun_some, crate::proofs::EachBox::each_mapped, crate::proofs::EachBox::none_mapped))]
+/// `NoEdit` where a line is no box, whatever memory there is. `Memory` only where each line with a
+/// word is a box, and there is one.
 pub fn read_boxes(alloc: Global, text: &[u8], style: BoxStyle) -> Result<Vec<Edit>, WordsFault>
     ensures covers { IfOk result (λ covers. AreCovers style text.now covers.items) }
-    ensures some { IfOk result (λ covers. 0 < length covers.items
-        → IsTrue (begins_with_box (parts_of 10 text.now))) }
-    ensures none { IfErr result
-        (λ e. e ≡ WordsFault.NoEdit → each_box (cover_of style) text.now ≡ None) }
-    ensures memory { IfErr result
-        (λ e. e ≡ WordsFault.Memory → IsTrue (begins_with_box (parts_of 10 text.now))) }
+    ensures none { IfErr result (λ e. e ≡ WordsFault.NoEdit → each_box text.now ≡ None) }
+    ensures memory { IfErr result (λ e. e ≡ WordsFault.Memory → HasBoxes text.now) }
 {
     let boxes = match read_tracked(alloc, text) {
         Ok(boxes) => boxes,

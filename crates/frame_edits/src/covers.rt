@@ -23,12 +23,7 @@ fn unit_of_chroma(chroma: Chroma) -> Unit
     ensures sound { IsUnit result }
     ensures small { result.down < 3 }
 {
-    let (across, down) = match chroma {
-        Chroma::Mono | Chroma::Whole | Chroma::WholeAlpha => (1, 1),
-        Chroma::Small => (2, 2),
-        Chroma::Wide => (2, 1),
-        Chroma::Quarter => (4, 1),
-    };
+    let (across, down) = chroma.sampling();
     Unit {
         across,
         down,
@@ -315,8 +310,8 @@ fn drawn(unit: Unit, width: usize, height: usize, edit: Edit) -> Window
     }
 }
 
-/// The rectangle that an edit changes in a frame of a video. That of a box has each pixel of its
-/// margin, which is the same on all sides. Of a flip it is no pixel.
+/// The rectangle that an edit changes in a frame of a video. That of a cover or a box has each pixel
+/// of its margin, which is the same on all sides. Of a flip it is no pixel.
 pub fn video_window(format: Format, edit: Edit) -> Window
     ensures drawn { result ≡ drawn (video_unit format) format.width format.height edit }
     ensures margin { KeepsMargin (video_unit format) format.width format.height edit result }

@@ -1,10 +1,9 @@
 //! The boxes of tracks, which are kept for some frames before and after a track, and over its gaps.
 
-ghost use Rattle.std.specs.Prelude.{◌≡◌, ◌<◌, ◌+◌, ◌∷◌, ◌++◌, length, All, Some, None, IfOk, IfErr, IsOk, IsTrue, OnOk};
+ghost use Rattle.std.specs.Prelude.{◌≡◌, ◌<◌, ◌+◌, ◌∷◌, ◌++◌, length, All, Some, None, IfOk, IfErr, IsOk, OnOk};
 ghost use Rattle.std.specs.List.{slice_get};
 ghost use Rattle.std.specs.Option.{option_to_list};
-ghost use Rattle.text_model.specs.Parts.{parts_of};
-ghost use Rattle.frame_lists.specs.Boxes.{IsBox, begins_with_box, each_box};
+ghost use Rattle.frame_lists.specs.Boxes.{HasBoxes, IsBox, each_box};
 ghost use Rattle.frame_lists.specs.Tracks.{missing, goes_on_at, comes_at, around};
 ghost use Rattle.frame_edits.specs.Holds.{kept, kept_on, filled, between, held_at, held, AreHeld};
 
@@ -16,7 +15,7 @@ use frame_lists::{
 use std::alloc::{AllocFailed, Global};
 
 // The cover of a box that is kept for so many frames before its own and after it.
-#[tactic(auto, using(crate::proofs::BoxSizes::is_box))]
+#[tactic(auto, using(frame_lists::proofs::BoxSizes::is_box))]
 fn kept(style: BoxStyle, before: usize, after: usize, tracked: Tracked) -> Edit
     requires { IsBox 32 tracked }
     ensures { result ≡ kept style before after tracked }
@@ -132,8 +131,9 @@ fn hold_all(
 ///
 /// # Errors
 ///
-/// `NoEdit` where a line is no box. `Memory` only where the first line with a word is one.
-#[tactic(auto, using(crate::proofs::EachBox::begun_some, crate::proofs::HeldEach::held_some))]
+/// `NoEdit` where a line is no box, whatever memory there is. `Memory` only where each line with a
+/// word is a box, and there is one.
+#[tactic(auto, using(crate::proofs::HeldEach::held_some))]
 pub fn read_held(
     alloc: Global,
     text: &[u8],
@@ -141,12 +141,8 @@ pub fn read_held(
     hold: usize,
 ) -> Result<Vec<Edit>, WordsFault>
     ensures covers { IfOk result (λ covers. AreHeld style text.now hold covers.items) }
-    ensures some { IfOk result (λ covers. 0 < length covers.items
-        → IsTrue (begins_with_box (parts_of 10 text.now))) }
-    ensures none { IfErr result
-        (λ e. e ≡ WordsFault.NoEdit → each_box (λ b. b) text.now ≡ None) }
-    ensures memory { IfErr result
-        (λ e. e ≡ WordsFault.Memory → IsTrue (begins_with_box (parts_of 10 text.now))) }
+    ensures none { IfErr result (λ e. e ≡ WordsFault.NoEdit → each_box text.now ≡ None) }
+    ensures memory { IfErr result (λ e. e ≡ WordsFault.Memory → HasBoxes text.now) }
 {
     let mut boxes = match read_tracked(alloc, text) {
         Ok(boxes) => boxes,

@@ -4,6 +4,7 @@
 
 mod box_covers;
 mod covers;
+mod found;
 mod framing;
 mod holds;
 mod lists;

@@ -4,12 +4,13 @@ ghost use Rattle.std.specs.Prelude.{◌≡◌, ◌≢◌, ◌<◌, ◌≤◌, �
 ghost use Rattle.std.specs.List.{flat_map};
 ghost use Rattle.std.specs.Option.{option_map};
 ghost use Rattle.text_model.specs.Parts.{parts_of};
-ghost use Rattle.frame_edits.specs.Lists.{Adds, AddsNone, IsEditLine, NeedsMemory, NeedsPlace, framing_of, named_of, plain, steps_of, with_line, with_lines, with_one};
+ghost use Rattle.frame_edits.specs.Lists.{Adds, AddsNone, HaveEdits, IsEditLine, NeedsMemory, NeedsPlace, framing_of, named_of, plain, steps_of, with_line, with_lines};
 ghost use Rattle.frame_edits.specs.Words.{edit_at, with_edit};
 
+use crate::found::{Found, Line, are_edits, are_lines, read_edit, read_line};
 use crate::framing::Framing;
-use crate::words::{Edit, read_framing, read_ranged};
-use frame_lists::{Words, WordsFault};
+use crate::words::Edit;
+use frame_lists::WordsFault;
 use std::alloc::Global;
 use texts::Parts;
 
@@ -18,28 +19,6 @@ use texts::Parts;
 pub struct Edits {
     pub steps: Vec<Edit>,
     pub framing: Option<Framing>,
-}
-
-/// The edit at the front of words.
-#[derive(Clone, Copy)]
-pub(crate) enum Found {
-    /// A change of the pixels of some frames.
-    Step(Edit),
-    /// What becomes of the size of all frames.
-    Size(Framing),
-}
-
-// The edit at the front of words, and how many words it has.
-fn read_edit(words: &[&[u8]]) -> Option<(Found, usize)>
-    ensures edit { option_map (λ f. named_of f.0 f.1) result ≡ edit_at (map (λ w. w.now) words.now) }
-    ensures some { IfSome result (λ f. 0 < f.1) }
-    ensures there { IfSome result (λ f. f.1 ≤ length words.now) }
-{
-    if let Some((framing, count)) = read_framing(words) {
-        return Some((Found::Size(framing), count));
-    }
-    let (step, count) = read_ranged(words)?;
-    Some((Found::Step(step), count))
 }
 
 impl Edits {
@@ -140,9 +119,34 @@ impl Edits {
     ///
     /// # Errors
     ///
-    /// `NoEdit` where the words are no edits, or one would come after a crop or a pad. On any fault
-    /// the edits stay as they were.
+    /// `NoEdit` where the words are no edits, or one would come after a crop or a pad, whatever memory
+    /// there is. On any fault the edits stay as they were.
     pub fn take_all(&mut self, words: &[&[u8]]) -> Result<(), WordsFault>
+        ensures adds { OnOk result (Adds (map (λ w. w.now) words.now) self.old self.new) }
+        ensures none { IfErr result
+            (λ e. e ≡ WordsFault.NoEdit → AddsNone (map (λ w. w.now) words.now) self.old) }
+        ensures memory { IfErr result (λ e. e ≡ WordsFault.Memory
+            → NeedsMemory self.old.framing (map (λ w. w.now) words.now)) }
+        ensures good { IfErr result (λ e. e ≡ WordsFault.Memory
+            → HaveEdits self.old.framing (map (λ w. w.now) words.now)) }
+        ensures same { IfErr result (λ _. plain self.new ≡ plain self.old) }
+    {
+        match self.add_all(words) {
+            Ok(()) => Ok(()),
+            Err(WordsFault::NoEdit) => Err(WordsFault::NoEdit),
+            Err(WordsFault::Memory) => {
+                // Without room the words are read once more: bad ones are told all the same.
+                if are_edits(self.framing, words) {
+                    Err(WordsFault::Memory)
+                } else {
+                    Err(WordsFault::NoEdit)
+                }
+            }
+        }
+    }
+
+    // The same, where what is first told is first met.
+    fn add_all(&mut self, words: &[&[u8]]) -> Result<(), WordsFault>
         ensures adds { OnOk result (Adds (map (λ w. w.now) words.now) self.old self.new) }
         ensures none { IfErr result
             (λ e. e ≡ WordsFault.NoEdit → AddsNone (map (λ w. w.now) words.now) self.old) }
@@ -164,34 +168,8 @@ impl Edits {
         Ok(())
     }
 
-    // Adds the one edit that all of the words are.
-    #[tactic(auto, using(crate::proofs::EditsEach::one_found, crate::proofs::EditsEach::one_there, crate::proofs::EditsEach::one_grows, crate::proofs::EditsEach::fewer_found, crate::proofs::EditsEach::none_taken))]
-    fn take_one(&mut self, words: &[&[u8]]) -> Result<(), WordsFault>
-        ensures taken { OnOk result
-            (with_one (plain self.old) (map (λ w. w.now) words.now) ≡ Some (plain self.new)) }
-        ensures none { IfErr result (λ e. e ≡ WordsFault.NoEdit
-            → with_one (plain self.old) (map (λ w. w.now) words.now) ≡ None) }
-        ensures memory { IfErr result (λ e. e ≡ WordsFault.Memory
-            → with_one (plain self.old) (map (λ w. w.now) words.now) ≢ None) }
-        ensures step { IfErr result (λ e. e ≡ WordsFault.Memory
-            → IfSome (with_one (plain self.old) (map (λ w. w.now) words.now))
-            (λ new. new.steps ≢ (plain self.old).steps)) }
-        ensures same { IfErr result (λ _. plain self.new ≡ plain self.old) }
-    {
-        match self.next_edit(words) {
-            Some((found, count)) => {
-                if count == words.len() {
-                    self.add(found)
-                } else {
-                    Err(WordsFault::NoEdit)
-                }
-            }
-            None => Err(WordsFault::NoEdit),
-        }
-    }
-
-    // Adds the edit that a line is, where it has a word. No edit has more than four words.
-    #[tactic(auto, using(crate::proofs::FewWords::too_many, crate::proofs::EditsEach::line_of))]
+    // Adds the edit that a line is, where it has a word.
+    #[tactic(auto, using(crate::proofs::EditLines::line_blank, crate::proofs::EditLines::line_edit, crate::proofs::EditLines::line_late, crate::proofs::EditLines::line_bad, crate::proofs::EditLines::line_step))]
     fn take_line(&mut self, line: &[u8]) -> Result<(), WordsFault>
         ensures taken { OnOk result (with_line (plain self.old) line.now ≡ Some (plain self.new)) }
         ensures none { IfErr result
@@ -200,23 +178,16 @@ impl Edits {
             (λ e. e ≡ WordsFault.Memory → IsEditLine (plain self.old) line.now) }
         ensures same { IfErr result (λ _. plain self.new ≡ plain self.old) }
     {
-        let mut words = Words::new(line);
-        let Some(first) = words.next_word() else {
-            return Ok(());
-        };
-        let Some(second) = words.next_word() else {
-            return self.take_one(&[first]);
-        };
-        let Some(third) = words.next_word() else {
-            return self.take_one(&[first, second]);
-        };
-        let Some(fourth) = words.next_word() else {
-            return self.take_one(&[first, second, third]);
-        };
-        if let Some(_fifth) = words.next_word() {
-            return Err(WordsFault::NoEdit);
+        match read_line(line) {
+            Line::Blank => Ok(()),
+            Line::Edit(found) => {
+                if self.framing.is_some() {
+                    return Err(WordsFault::NoEdit);
+                }
+                self.add(found)
+            }
+            Line::Bad => Err(WordsFault::NoEdit),
         }
-        self.take_one(&[first, second, third, fourth])
     }
 
     /// Adds the edits that the lines of a text name, one on each line. Between words and around them
@@ -225,9 +196,36 @@ impl Edits {
     ///
     /// # Errors
     ///
-    /// `NoEdit` where a line isn't one edit, or would come after a crop or a pad. `Memory` only where
-    /// a line is an edit of pixels, and those before it are edits. On any fault the edits stay as they were.
+    /// `NoEdit` where a line isn't one edit, or would come after a crop or a pad, whatever memory there
+    /// is. `Memory` only where a line is an edit of pixels. On any fault the edits stay as they were.
+    #[tactic(auto, using(crate::proofs::EditLines::lines_good, crate::proofs::EditLines::lines_bad))]
     pub fn take_lines(&mut self, _alloc: Global, text: &[u8]) -> Result<(), WordsFault>
+        ensures taken { OnOk result
+            (with_lines (plain self.old) (parts_of 10 text.now) ≡ Some (plain self.new)) }
+        ensures none { IfErr result (λ e. e ≡ WordsFault.NoEdit
+            → with_lines (plain self.old) (parts_of 10 text.now) ≡ None) }
+        ensures memory { IfErr result (λ e. e ≡ WordsFault.Memory
+            → NeedsPlace (plain self.old) (parts_of 10 text.now)) }
+        ensures good { IfErr result (λ e. e ≡ WordsFault.Memory
+            → with_lines (plain self.old) (parts_of 10 text.now) ≢ None) }
+        ensures same { IfErr result (λ _. plain self.new ≡ plain self.old) }
+    {
+        match self.add_lines(text) {
+            Ok(()) => Ok(()),
+            Err(WordsFault::NoEdit) => Err(WordsFault::NoEdit),
+            Err(WordsFault::Memory) => {
+                // Without room the lines are read once more: a bad one is told all the same.
+                if are_lines(self.framing, text) {
+                    Err(WordsFault::Memory)
+                } else {
+                    Err(WordsFault::NoEdit)
+                }
+            }
+        }
+    }
+
+    // The same, where what is first told is first met.
+    fn add_lines(&mut self, text: &[u8]) -> Result<(), WordsFault>
         ensures taken { OnOk result
             (with_lines (plain self.old) (parts_of 10 text.now) ≡ Some (plain self.new)) }
         ensures none { IfErr result (λ e. e ≡ WordsFault.NoEdit

@@ -15,7 +15,6 @@ use Rattle.image_planes.specs.declared.change.Change.TheVariants.{Fill, Mosaic, 
 use Rattle.image_planes.specs.declared.change.Step.{Step}
 use Rattle.image_planes.specs.declared.target.Resize.{Resize}
 use Rattle.frame_edits.specs.Covers.{frames_for, one_pixel, settled_by, turns_over, video_unit}
-use Rattle.frame_edits.specs.Edits.{Edits}
 use Rattle.frame_edits.specs.Order.{covers_first, ends_after, fills_late, may_meet}
 use Rattle.frame_edits.specs.declared.covers.Unit.{Unit}
 use Rattle.frame_edits.specs.declared.framing.Framing.{Framing}
@@ -33,12 +32,12 @@ use Rattle.frame_heads.specs.declared.header.Format.{Format}
 use Rattle.frame_heads.specs.declared.picture.Picture.{Picture}
 use Rattle.frame_heads.specs.declared.pixel.Pixel.{Pixel}
 use Rattle.frame_heads.specs.declared.rate.Rate.{Rate}
-use Rattle.frame_lists.specs.Ranges.{end_at, frame_at, frames_from, frames_in}
+use Rattle.frame_lists.specs.Ranges.{end_at, frame_at, frames_in}
 use Rattle.frame_lists.specs.declared.ranges.Range.{Range}
 use Rattle.frame_lists.specs.declared.ranges.Range.TheVariants.{Frames, Times}
 use Rattle.frame_formats.specs.Framings.{resize_for}
 use Rattle.frame_formats.specs.Layers.{change_on, job_on, jobs_on, layer_height, layer_width, opaque_change, picture_layers, picture_pixel, resizings_on, video_layers}
-use Rattle.frame_formats.specs.Recipe.{PicturesHideFilled, Recipe, VideosHideFilled, finished_picture, finished_video, picture_recipe, recipe, resized_picture, video_recipe}
+use Rattle.frame_formats.specs.Recipe.{PicturesHideFilled, Recipe, VideosHideFilled, finished_picture, finished_video, recipe, resized_picture}
 use Rattle.frame_formats.specs.Sampling.{at_corner, change_under, exact_samples, samples, window_under}
 use Rattle.frame_formats.specs.Steps.{all_some, bytes_of, change_in, no_colour, step_by, step_in, value_in}
 use Rattle.frame_formats.specs.declared.layers.Layer.{Layer}

@@ -1,6 +1,9 @@
+pub mod BadEdits
+pub mod EachOne
 pub mod FillsFirst
 pub mod PictureSizes
 pub mod Sizes
 pub mod Started
 pub mod StepsEach
+pub mod SuitingEdits
 pub mod WrittenHeads

@@ -13,8 +13,7 @@ use Rattle.frame_formats.specs.Layers.{picture_pixel, picture_layers, resizings_
 use Rattle.frame_heads.specs.Pixels.{pixel_size}
 use Rattle.frame_heads.specs.Heads.{head_text, ReadsBack}
 use Rattle.frame_heads.specs.Picture.{picture_of, is_greatest}
-use Rattle.frame_edits.specs.Edits.{Edits}
-use Rattle.frame_formats.specs.Recipe.{HeadsAreRead, Recipe, recipe, finished_picture, picture_recipe, resized_picture}
+use Rattle.frame_formats.specs.Recipe.{HeadsAreRead, Recipe, recipe, finished_picture, resized_picture}
 use Rattle.frame_formats.proofs.PictureSizes.{picture_size, picture_resized}
 use Rattle.frame_edits.specs.declared.framing.Framing.{Framing}
 use Rattle.frame_heads.specs.declared.picture.Picture.{Picture}

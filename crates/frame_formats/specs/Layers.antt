@@ -1,5 +1,5 @@
 -- The planes of a frame or a picture, and what is done to each.
-use Rattle.std.specs.Prelude.{ℕ, ◌<◌, true, false, List, [], ◌∷◌, Option, Some}
+use Rattle.std.specs.Prelude.{ℕ, ◌<◌, true, false, List, [], ◌∷◌, ◌++◌, Option, Some}
 use Rattle.image_planes.specs.Changes.{Job, job_for}
 use Rattle.image_planes.specs.Resized.{Resizing, resizing_for}
 use Rattle.std.specs.Option.{option_map}
@@ -13,6 +13,7 @@ use Rattle.frame_formats.specs.Sampling.{samples, change_under}
 use Rattle.frame_formats.specs.Framings.{resize_under}
 use Rattle.frame_formats.specs.Steps.{StartsWell, all_some, step_by, change_in, opaque}
 use Rattle.frame_heads.specs.Pixels.{pixel_size}
+use Rattle.frame_heads.specs.Format.{sampling}
 use Rattle.frame_heads.specs.declared.header.Chroma.{Chroma}
 use Rattle.frame_heads.specs.declared.header.Chroma.TheVariants.{Mono, Small, Wide, Quarter, Whole, WholeAlpha}
 use Rattle.frame_heads.specs.Pam.{tuple}
@@ -37,17 +38,17 @@ picture_pixel p = record { tuples = kind_tuple p.kind; greatest = p.greatest; hi
 abbrev pub picture_layers : List Layer
 picture_layers = Pixels ∷ []
 
--- after the plane of brightness there may be two planes of chroma samples, one for so many columns and rows of pixels, and one of how opaque each pixel is
-abbrev pub sampled : ℕ → ℕ → List Layer
-sampled x y = Pixels ∷ Samples x y ∷ Samples x y ∷ []
+-- after the plane of brightness there may be two planes of chroma samples, each for so many columns and rows of pixels, and one of how opaque each pixel is
+abbrev pub sampled : ℕ × ℕ → List Layer
+sampled share = Pixels ∷ Samples share.0 share.1 ∷ Samples share.0 share.1 ∷ []
 
 abbrev pub video_layers : Chroma → List Layer
-video_layers WholeAlpha = Pixels ∷ Samples 1 1 ∷ Samples 1 1 ∷ Alpha ∷ []
+video_layers WholeAlpha = sampled (sampling WholeAlpha) ++ Alpha ∷ []
 video_layers Mono = Pixels ∷ []
-video_layers Small = sampled 2 2
-video_layers Wide = sampled 2 1
-video_layers Quarter = sampled 4 1
-video_layers Whole = sampled 1 1
+video_layers Small = sampled (sampling Small)
+video_layers Wide = sampled (sampling Wide)
+video_layers Quarter = sampled (sampling Quarter)
+video_layers Whole = sampled (sampling Whole)
 
 -- a sample stands for some pixels
 abbrev pub StandsForPixels : Layer → Type 0

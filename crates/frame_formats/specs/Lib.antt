@@ -6,3 +6,4 @@ pub mod Recipe
 pub mod Rooms
 pub mod Sampling
 pub mod Steps
+pub mod Suits

@@ -1,11 +1,12 @@
 -- What is done to a video, and to a picture.
-use Rattle.std.specs.Prelude.{◌≡◌, true, ◌==◌, ℕ, ◌<◌, List, [], ◌∷◌, ◌++◌, map, Option, Some, None, if◌then◌else◌}
+use Rattle.std.specs.Prelude.{◌≡◌, true, ◌==◌, ℕ, ◌+◌, ◌<◌, List, [], ◌∷◌, ◌++◌, map, Option, Some, None, if◌then◌else◌}
 use Rattle.std.specs.Option.{option_map}
 use Rattle.std.specs.declared.vec.Vec.{Vec}
 use Rattle.image_planes.specs.Changes.{Job, jobs_len, changed_planes}
 use Rattle.image_planes.specs.Resized.{Resizing, resized_planes, sources_len, targets_len, new_width, new_height}
 use Rattle.image_planes.specs.Targets.{resizing_of}
 use Rattle.image_planes.specs.Filled.{PlanesUnfilled}
+use Rattle.image_planes.specs.Scratch.{scratch_len}
 use Rattle.image_planes.specs.Unseen.{PlanesAlike}
 use Rattle.image_planes.specs.declared.target.Target.{Target}
 use Rattle.frame_heads.specs.Format.{format_of, is_upright}
@@ -25,10 +26,11 @@ use Rattle.frame_edits.specs.declared.framing.Framing.{Framing}
 use Rattle.frame_heads.specs.declared.header.Format.{Format}
 use Rattle.frame_heads.specs.declared.picture.Picture.{Picture}
 
--- what is written before the first frame, how many bytes a frame has, what is done to each of its planes, and what the bytes of a frame become, by its number from 0
+-- what is written before the first frame, how many bytes a frame has, and how many in its other size, what is done to each of its planes, and what the bytes of a frame become, by its number from 0
 pub record Recipe : Type 0 where
   pub head : List ℕ
   pub size : ℕ
+  pub other_size : ℕ
   pub jobs : List Job
   pub frame : ℕ → List ℕ → List ℕ
 
@@ -37,14 +39,24 @@ abbrev pub resized_by : Option (List Resizing) → List ℕ → List ℕ
 resized_by None planes = planes
 resized_by (Some resizings) planes = resized_planes resizings planes
 
+-- how many bytes the planes have in their other size, where they get one
+abbrev pub other_len : Option (List Resizing) → ℕ
+other_len None = 0
+other_len (Some resizings) = targets_len resizings
+
 -- each plane is changed, and then made one of its other size
 abbrev pub recipe : List ℕ → List Job → Option (List Resizing) → Recipe
 recipe head jobs resizings = record {
   head = head;
   size = jobs_len jobs;
+  other_size = other_len resizings;
   jobs = jobs;
   frame = λ number cells. resized_by resizings (changed_planes number jobs cells);
 }
+
+-- how many bytes the buffers have that it needs: for a frame, for its other size, and for blurs
+abbrev pub buffers_len : Recipe → ℕ
+buffers_len r = r.size + r.other_size + scratch_len r.jobs
 
 -- ---- a video
 

@@ -112,8 +112,8 @@ fn opaque_resize(pixel: Pixel, resize: Resize) -> Resize
     }
 }
 
-// What a change of the pixels of a frame of this size is to the plane.
-fn change_on(
+/// What a change of the pixels of a frame of this size is to the plane.
+pub(crate) fn change_on(
     pixel: Pixel,
     layer: Layer,
     width: usize,
@@ -131,8 +131,8 @@ fn change_on(
     }
 }
 
-// The size of the plane in a frame of this size.
-fn size_on(layer: Layer, width: usize, height: usize) -> (usize, usize)
+/// The size of the plane in a frame of this size.
+pub(crate) fn size_on(layer: Layer, width: usize, height: usize) -> (usize, usize)
     requires { StandsForPixels layer }
     ensures { result ≡ (layer_width layer width, layer_height layer height) }
 {
@@ -178,8 +178,8 @@ fn plane_on(
     Plane::new(alloc, size, wide, high, made)?.ok_or(PlanFault::Outside)
 }
 
-// The plane, with what becomes of its size where this becomes of the frame's.
-fn target_on(
+/// The plane, with what becomes of its size where this becomes of the frame's.
+pub(crate) fn target_on(
     pixel: Pixel,
     layer: Layer,
     width: usize,

@@ -9,9 +9,11 @@ mod plans;
 mod samples;
 mod settling;
 mod steps;
+mod suits;
 
 pub use frame_edits::Edits;
 pub use frame_heads::{Kind, Picture, read_format};
 pub use frame_lists::WordsFault;
 pub use hiding::recipes_hide;
 pub use plans::{Plan, PlanFault};
+pub use suits::{Unsuited, unsuited_in_picture, unsuited_in_video};

@@ -8,14 +8,16 @@ ghost use Rattle.frame_heads.specs.Format.{format_of};
 ghost use Rattle.frame_formats.specs.Plan.{Tells};
 ghost use Rattle.frame_edits.specs.Covers.{one_pixel, video_unit};
 ghost use Rattle.frame_formats.specs.Steps.{step_in, StartsWell};
+ghost use Rattle.frame_formats.specs.Suits.{suit_picture, suit_video};
 ghost use Rattle.frame_edits.specs.Edits.{edits};
 ghost use Rattle.frame_heads.specs.Rates.{rate_of};
 ghost use Rattle.frame_formats.specs.Recipe.{recipe, video_recipe, picture_recipe, new_len, resized_len, resizings_of};
 
 use crate::framing::resize_of;
 use crate::layers::{picture_layers, picture_pixel, planes_of, targets_of, video_layers};
-use crate::settling::settle_all;
-use frame_edits::{Edit, Framing, Unit, unit_of_video};
+use crate::settling::{settle_all, unit_of_picture};
+use crate::suits::{unsuited_in_picture, unsuited_in_video};
+use frame_edits::{Edit, Framing, unit_of_video};
 use frame_heads::{Format, Picture, ended_line, picture_head, read_rate, resized_line};
 use image_planes::{
     Plane, Scratch, Target, change_planes, planes_len, resize_planes, scratch_len, targets_len,
@@ -66,6 +68,22 @@ pub struct Plan {
     ghost covers: { resized_len (resizings_of targets) ≤ source_len },
 }
 
+// Whether no edit of a video is bad.
+#[tactic(auto, using(crate::proofs::BadEdits::decided))]
+fn suits_video(line: &[u8], format: Format, steps: &[Edit], framing: Option<Framing>) -> bool
+    ensures { result ≡ suit_video (edits steps.now framing) line.now format }
+{
+    unsuited_in_video(format, read_rate(line), steps, framing).is_none()
+}
+
+// The same of a picture.
+#[tactic(auto, using(crate::proofs::BadEdits::decided))]
+fn suits_picture(picture: Picture, steps: &[Edit], framing: Option<Framing>) -> bool
+    ensures { result ≡ suit_picture (edits steps.now framing) picture }
+{
+    unsuited_in_picture(picture, steps, framing).is_none()
+}
+
 impl Plan {
     // These name the type itself.
     ghost use Rattle.frame_formats.specs.Planned.{recipe_of, plan_room, plan_other_room};
@@ -102,9 +120,43 @@ impl Plan {
     ///
     /// # Errors
     ///
-    /// `Outside` where the edits aren't valid for such a video, or no row would be left.
-    #[tactic(auto, using(crate::proofs::Sizes::same_sizes, crate::proofs::StepsEach::starts_made, crate::proofs::StepsEach::starts_first))]
+    /// `Outside` where the edits aren't valid for such a video, or no row would be left. A bad edit is
+    /// told so whatever memory there is.
+    #[tactic(auto, using(crate::proofs::SuitingEdits::unsuited_video))]
     pub fn for_video(
+        alloc: Global,
+        line: &[u8],
+        format: Format,
+        steps: &[Edit],
+        framing: Option<Framing>,
+    ) -> Result<Plan, PlanFault>
+        requires { format_of line.now ≡ Some format }
+        ensures plan { IfOk result
+            (λ plan. video_recipe (edits steps.now framing) line.now ≡ Some (recipe_of plan)) }
+        ensures fault { IfErr result
+            (Tells (video_recipe (edits steps.now framing) line.now ≡ None)) }
+        ensures memory { IfErr result (λ e. e ≡ PlanFault.Memory → StartsWell
+            (step_in (video_unit format) (rate_of line.now) format.width format.height) steps.now) }
+        ensures good { IfErr result (λ e. e ≡ PlanFault.Memory
+            → suit_video (edits steps.now framing) line.now format ≡ true) }
+    {
+        match Plan::of_video(alloc, line, format, steps, framing) {
+            Ok(plan) => Ok(plan),
+            Err(PlanFault::Outside) => Err(PlanFault::Outside),
+            Err(PlanFault::Memory) => {
+                // Without room each edit is looked at by itself.
+                if suits_video(line, format, steps, framing) {
+                    Err(PlanFault::Memory)
+                } else {
+                    Err(PlanFault::Outside)
+                }
+            }
+        }
+    }
+
+    // The same, where what is first told is first met.
+    #[tactic(auto, using(crate::proofs::Sizes::same_sizes, crate::proofs::StepsEach::starts_made, crate::proofs::StepsEach::starts_first))]
+    fn of_video(
         alloc: Global,
         line: &[u8],
         format: Format,
@@ -142,9 +194,41 @@ impl Plan {
     ///
     /// # Errors
     ///
-    /// `Outside` where the edits aren't valid for such a picture, or no row would be left.
-    #[tactic(auto, using(crate::proofs::Sizes::same_sizes, crate::proofs::StepsEach::starts_made, crate::proofs::StepsEach::starts_first))]
+    /// `Outside` where the edits aren't valid for such a picture, or no row would be left. A bad edit
+    /// is told so whatever memory there is.
+    #[tactic(auto, using(crate::proofs::SuitingEdits::unsuited_picture))]
     pub fn for_picture(
+        alloc: Global,
+        picture: Picture,
+        steps: &[Edit],
+        framing: Option<Framing>,
+    ) -> Result<Plan, PlanFault>
+        ensures plan { IfOk result
+            (λ plan. picture_recipe (edits steps.now framing) picture ≡ Some (recipe_of plan)) }
+        ensures fault { IfErr result
+            (Tells (picture_recipe (edits steps.now framing) picture ≡ None)) }
+        ensures memory { IfErr result (λ e. e ≡ PlanFault.Memory → StartsWell
+            (step_in one_pixel None picture.width picture.height) steps.now) }
+        ensures good { IfErr result (λ e. e ≡ PlanFault.Memory
+            → suit_picture (edits steps.now framing) picture ≡ true) }
+    {
+        match Plan::of_picture(alloc, picture, steps, framing) {
+            Ok(plan) => Ok(plan),
+            Err(PlanFault::Outside) => Err(PlanFault::Outside),
+            Err(PlanFault::Memory) => {
+                // Without room each edit is looked at by itself.
+                if suits_picture(picture, steps, framing) {
+                    Err(PlanFault::Memory)
+                } else {
+                    Err(PlanFault::Outside)
+                }
+            }
+        }
+    }
+
+    // The same, where what is first told is first met.
+    #[tactic(auto, using(crate::proofs::Sizes::same_sizes, crate::proofs::StepsEach::starts_made, crate::proofs::StepsEach::starts_first))]
+    fn of_picture(
         alloc: Global,
         picture: Picture,
         steps: &[Edit],
@@ -159,11 +243,7 @@ impl Plan {
     {
         let (pixel, width, height) = (picture_pixel(picture), picture.width, picture.height);
         let layers = picture_layers();
-        let unit = Unit {
-            across: 1,
-            down: 1,
-            interlaced: false,
-        };
+        let unit = unit_of_picture();
         let settled = settle_all(alloc, unit, None, width, height, steps)?;
         let planes = planes_of(alloc, pixel, layers, width, height, &settled)?;
         let Some(framing) = framing else {
@@ -200,7 +280,8 @@ impl Plan {
 
     /// The number of bytes that the other buffer needs: those of a frame in its other size.
     pub fn other_room(&self) -> usize
-        ensures { result ≡ plan_other_room self.now }
+        ensures room { result ≡ plan_other_room self.now }
+        ensures size { result ≡ (recipe_of self.now).other_size }
     {
         match self.targets {
             Some(_) => self.len,

@@ -16,6 +16,15 @@ abbrev pub tagged : ℕ → List (List ℕ) → Option (List ℕ)
 tagged letter [] = None
 tagged letter (field ∷ fields) = if slice_index field 0 == letter then Some (drop 1 field) else tagged letter fields
 
+-- how many columns and rows of pixels share a chroma sample
+abbrev pub sampling : Chroma → ℕ × ℕ
+sampling Mono = (1, 1)
+sampling Small = (2, 2)
+sampling Wide = (2, 1)
+sampling Quarter = (4, 1)
+sampling Whole = (1, 1)
+sampling WholeAlpha = (1, 1)
+
 -- how a word names the chroma samples: in one byte each, for two by two pixels, for two by one, for four by one, for each
 abbrev pub chroma_of : List ℕ → Option Chroma
 chroma_of =

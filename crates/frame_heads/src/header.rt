@@ -26,6 +26,27 @@ pub enum Chroma {
     WholeAlpha,
 }
 
+impl Chroma {
+    // This names the type itself.
+    ghost use Rattle.frame_heads.specs.Format.{sampling};
+
+    /// How many columns and rows of pixels share a chroma sample. Where there is none, it is one of
+    /// each.
+    pub fn sampling(self) -> (usize, usize)
+        ensures shares { result ≡ sampling self }
+        ensures columns { 0 < result.0 }
+        ensures rows { 0 < result.1 }
+        ensures few { result.1 < 3 }
+    {
+        match self {
+            Chroma::Mono | Chroma::Whole | Chroma::WholeAlpha => (1, 1),
+            Chroma::Small => (2, 2),
+            Chroma::Wide => (2, 1),
+            Chroma::Quarter => (4, 1),
+        }
+    }
+}
+
 /// The size of the frames in pixels, and their planes.
 #[derive(Clone, Copy, PartialEq, Eq)]
 pub struct Format {

@@ -1,5 +1,6 @@
 pub mod BothBoxes
-pub mod BoxesBegun
+pub mod BoxSizes
+pub mod BoxLines
 pub mod LineEnds
 pub mod LineWords
 pub mod Ties

@@ -1,5 +1,5 @@
 -- The boxes of a tracker's list, and which pixels they touch.
-use Rattle.std.specs.Prelude.{ℕ, ◌<◌, ◌≤◌, ◌+◌, ◌-◌, ◌*◌, ◌==◌, ◌&&◌, Bool, true, false, nat_le, if◌then◌else◌, Option, Some, None, ◌≢◌, ◌↔◌, ◌/◌, ◌^◌, not, nat_lt, IsTrue, List, [], ◌∷◌, ◌++◌, length, reverse, map}
+use Rattle.std.specs.Prelude.{◌≡◌, ℕ, ◌<◌, ◌≤◌, ◌+◌, ◌-◌, ◌*◌, ◌==◌, ◌&&◌, Bool, true, false, nat_le, if◌then◌else◌, Option, Some, None, ◌≢◌, ◌↔◌, ◌/◌, ◌^◌, not, nat_lt, IsTrue, List, [], ◌∷◌, ◌++◌, length, reverse}
 use Rattle.std.specs.Option.{option_map}
 use Rattle.image_shape.specs.declared.window.Window.{Window}
 use Rattle.frame_lists.specs.Digits.{worth_of}
@@ -140,28 +140,20 @@ line_boxes line = boxes_by (box_of (box_text line)) (box_text line)
 abbrev pub IsBoxLine : List ℕ → Type 0
 IsBoxLine line = box_of (box_text line) ≢ None
 
--- what boxes become, with that of the box that a line adds, and with those of all lines
-abbrev pub with_box : {X : Type 0} → (Tracked → X) → List X → List ℕ → Option (List X)
-with_box become old line = option_map (λ more. old ++ map become more) (line_boxes line)
+-- the boxes so far with the one that a line adds, and with those of all lines
+abbrev pub with_box : List Tracked → List ℕ → Option (List Tracked)
+with_box old line = option_map (λ more. old ++ more) (line_boxes line)
 
-abbrev pub with_boxes : {X : Type 0} → (Tracked → X) → List X → List (List ℕ) → Option (List X)
-with_boxes become old [] = Some old
-with_boxes become old (line ∷ lines) = with_box become old line >>= λ new. with_boxes become new lines
+abbrev pub with_boxes : List Tracked → List (List ℕ) → Option (List Tracked)
+with_boxes old [] = Some old
+with_boxes old (line ∷ lines) = with_box old line >>= λ new. with_boxes new lines
 
--- what the boxes of a text become, in the order of its lines
-abbrev pub each_box : {X : Type 0} → (Tracked → X) → List ℕ → Option (List X)
-each_box become text = with_boxes become [] (parts_of 10 text)
+-- the boxes that the lines of a text are, in their order: each line with a word is one
+abbrev pub each_box : List ℕ → Option (List Tracked)
+each_box text = with_boxes [] (parts_of 10 text)
 
--- whether there is a box: those of the lines so far, or one of the rest
-abbrev pub begun : {X : Type 0} → List X → Bool → Bool
-begun [] rest = rest
-begun (x ∷ xs) rest = true
-
-abbrev pub begun_by : Option (List Tracked) → Bool → Bool
-begun_by None rest = false
-begun_by (Some boxes) rest = begun boxes rest
-
--- whether the first line with a word is a box: what it becomes needs memory, and nothing before it does
-abbrev pub begins_with_box : List (List ℕ) → Bool
-begins_with_box [] = false
-begins_with_box (line ∷ lines) = begun_by (line_boxes line) (begins_with_box lines)
+-- each line with a word is a box, and there is one: what it becomes needs memory
+pub record HasBoxes (text : List ℕ) : Type 0 where
+  pub boxes : List Tracked
+  pub are : each_box text ≡ Some boxes
+  pub some : 0 < length boxes

@@ -1,11 +1,12 @@
 //! The boxes of a tracker's list.
 
-ghost use Rattle.std.specs.Prelude.{◌≡◌, ◌<◌, ◌+◌, ◌*◌, ◌^◌, All, Some, None, IfSome, IfOk, IfErr, OnOk, IsTrue, true, false, [], ◌-◌};
+ghost use Rattle.std.specs.Prelude.{◌≡◌, ◌≢◌, ◌<◌, ◌+◌, ◌*◌, ◌^◌, All, Some, None, IfSome, IfOk, IfErr, OnOk, true, false, [], ◌-◌};
 ghost use Rattle.std.specs.List.{list_all};
+ghost use Rattle.std.specs.Option.{is_some};
 ghost use Rattle.text_model.specs.Parts.{parts_of};
 ghost use Rattle.text_model.specs.Reading.{Finds, first_of_parts};
 ghost use Rattle.texts.specs.Parts.{parts_left};
-ghost use Rattle.frame_lists.specs.Boxes.{without_white, ended, box_text, part_of, part_in, unsigned_in, signed_of, decimal_of, frame_of, box_of, IsDecimal, IsBox, place_of, side_of, with_box, IsBoxLine, TouchesExactly, window_of_box, each_box, begun, begins_with_box};
+ghost use Rattle.frame_lists.specs.Boxes.{without_white, ended, box_text, part_of, part_in, unsigned_in, signed_of, decimal_of, frame_of, box_of, IsDecimal, IsBox, place_of, side_of, with_box, HasBoxes, IsBoxLine, TouchesExactly, window_of_box, each_box, line_boxes};
 ghost use Rattle.frame_lists.specs.Lines.{is_white};
 
 use crate::digits::read_worth;
@@ -168,10 +169,11 @@ fn next_frame(fields: &mut Parts<'_>) -> Option<usize>
 
 /// The box that a line is, without its comment and its end (`box_text`). It takes no memory.
 #[inline(always)]
-#[tactic(auto, unfolding(crate::specs::Boxes::box_in))]
+#[tactic(auto, unfolding(crate::specs::Boxes::box_in), using(crate::proofs::BoxSizes::is_box))]
 pub fn read_box(line: &[u8]) -> Option<Tracked>
     ensures tracked { result ≡ box_of line.now }
     ensures exact { IfSome result (IsBox 32) }
+    ensures wide { IfSome result (IsBox 34) }
 {
     let mut fields = Parts::new(line, b',');
     let frame = next_frame(&mut fields)?;
@@ -260,10 +262,10 @@ fn pass_over(line: &[u8]) -> Result<(), WordsFault>
 fn take_box(boxes: &mut Vec<Tracked>, line: &[u8]) -> Result<(), WordsFault>
     requires { All (IsBox 32) boxes.old.items }
     ensures taken { OnOk result
-        (with_box (λ b. b) boxes.old.items line.now ≡ Some boxes.new.items) }
+        (with_box boxes.old.items line.now ≡ Some boxes.new.items) }
     ensures exact { OnOk result (All (IsBox 32) boxes.new.items) }
     ensures none { IfErr result
-        (λ e. e ≡ WordsFault.NoEdit → with_box (λ b. b) boxes.old.items line.now ≡ None) }
+        (λ e. e ≡ WordsFault.NoEdit → with_box boxes.old.items line.now ≡ None) }
     ensures memory { IfErr result (λ e. e ≡ WordsFault.Memory → IsBoxLine line.now) }
 {
     let line = box_text(line);
@@ -276,21 +278,36 @@ fn take_box(boxes: &mut Vec<Tracked>, line: &[u8]) -> Result<(), WordsFault>
     }
 }
 
-/// The boxes that the lines of a text are, in their order, as `read_boxes` has them.
-///
-/// # Errors
-///
-/// `NoEdit` where a line is no box. `Memory` only where the first line with a word is one.
-#[tactic(auto, using(crate::proofs::BoxesBegun::begun_more, crate::proofs::BoxesBegun::begun_here))]
-pub fn read_tracked(alloc: Global, text: &[u8]) -> Result<Vec<Tracked>, WordsFault>
-    ensures boxes { IfOk result (λ boxes. each_box (λ b. b) text.now ≡ Some boxes.items) }
+// Whether a line is a box, or has no word.
+fn adds_boxes(line: &[u8]) -> bool
+    ensures { result ≡ is_some (line_boxes line.now) }
+{
+    let line = box_text(line);
+    read_box(line).is_some() || is_blank(line)
+}
+
+/// Whether each line of a text with a word is a box. It takes no memory.
+#[tactic(auto, using(crate::proofs::BoxLines::good_line, crate::proofs::BoxLines::bad_line))]
+pub fn are_boxes(text: &[u8]) -> bool
+    ensures { result ≡ is_some (each_box text.now) }
+{
+    let mut lines = Parts::new(text, b'\n');
+    while let Some(line) = lines.next_part() {
+        if !adds_boxes(line) {
+            return false;
+        }
+    }
+    true
+}
+
+// The boxes of a text up to the first line that is no box, or for which there is no room.
+#[tactic(auto, using(crate::proofs::BoxLines::never_empty))]
+fn read_lines(alloc: Global, text: &[u8]) -> Result<Vec<Tracked>, WordsFault>
+    ensures boxes { IfOk result (λ boxes. each_box text.now ≡ Some boxes.items) }
     ensures exact { IfOk result (λ boxes. All (IsBox 32) boxes.items) }
-    ensures none { IfErr result
-        (λ e. e ≡ WordsFault.NoEdit → each_box (λ b. b) text.now ≡ None) }
-    ensures begun { IfOk result
-        (λ boxes. begun boxes.items false ≡ begins_with_box (parts_of 10 text.now)) }
+    ensures none { IfErr result (λ e. e ≡ WordsFault.NoEdit → each_box text.now ≡ None) }
     ensures memory { IfErr result
-        (λ e. e ≡ WordsFault.Memory → IsTrue (begins_with_box (parts_of 10 text.now))) }
+        (λ e. e ≡ WordsFault.Memory → each_box text.now ≢ Some []) }
 {
     let mut boxes = Vec::new(alloc);
     let mut lines = Parts::new(text, b'\n');
@@ -300,6 +317,29 @@ pub fn read_tracked(alloc: Global, text: &[u8]) -> Result<Vec<Tracked>, WordsFau
         }
     }
     Ok(boxes)
+}
+
+/// The boxes that the lines of a text are, in their order, as `read_boxes` has them.
+///
+/// # Errors
+///
+/// `NoEdit` where a line is no box, whatever memory there is. `Memory` only where each line with a
+/// word is a box, and there is one.
+#[tactic(auto, using(crate::proofs::BoxLines::has_boxes, crate::proofs::BoxLines::no_boxes, crate::proofs::BoxSizes::are_boxes))]
+pub fn read_tracked(alloc: Global, text: &[u8]) -> Result<Vec<Tracked>, WordsFault>
+    ensures boxes { IfOk result (λ boxes. each_box text.now ≡ Some boxes.items) }
+    ensures exact { IfOk result (λ boxes. All (IsBox 32) boxes.items) }
+    ensures wide { IfOk result (λ boxes. All (IsBox 34) boxes.items) }
+    ensures none { IfErr result (λ e. e ≡ WordsFault.NoEdit → each_box text.now ≡ None) }
+    ensures memory { IfErr result (λ e. e ≡ WordsFault.Memory → HasBoxes text.now) }
+{
+    match read_lines(alloc, text) {
+        Ok(boxes) => Ok(boxes),
+        Err(WordsFault::NoEdit) => Err(WordsFault::NoEdit),
+        // Without room the lines are read once more: a bad one is told all the same.
+        Err(WordsFault::Memory) if are_boxes(text) => Err(WordsFault::Memory),
+        Err(WordsFault::Memory) => Err(WordsFault::NoEdit),
+    }
 }
 
 /// How many pixels before a frame the numbers of boxes begin.

@@ -11,8 +11,8 @@ mod ranges;
 mod tracks;
 
 pub use boxes::{
-    BEFORE, Decimal, Tracked, box_text, read_box, read_decimal, read_frame, read_tracked,
-    window_of_box,
+    BEFORE, Decimal, Tracked, are_boxes, box_text, read_box, read_decimal, read_frame,
+    read_tracked, window_of_box,
 };
 pub use counts::{agrees, read_count, says_none_else};
 pub use fault::WordsFault;

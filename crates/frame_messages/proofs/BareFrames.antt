@@ -8,7 +8,7 @@ use Rattle.frame_messages.specs.Bare.{AreBare, AreCounted, AreInOrder, BeginsFro
 use Rattle.frame_edits.specs.declared.words.Edit.{Edit}
 use Rattle.frame_messages.specs.declared.report.Bare.{Bare}
 
-count_at : (p : ℕ → Bool) (n : ℕ) (b : Bool) → p n ≡ b → bare_count p (suc n) ≡ (if b then bare_count p n + 1 else bare_count p n)
+pub count_at : (p : ℕ → Bool) (n : ℕ) (b : Bool) → p n ≡ b → bare_count p (suc n) ≡ (if b then bare_count p n + 1 else bare_count p n)
 count_at p n b is = ap (λ (v : Bool). if v then bare_count p n + 1 else bare_count p n) is
 
 count_small : (p : ℕ → Bool) (n : ℕ) → bare_count p n ≤ n

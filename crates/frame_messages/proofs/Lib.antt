@@ -1,3 +1,9 @@
-pub mod AnyNoted
 pub mod BareFrames
+pub mod BegunSpans
+pub mod FrameLines
+pub mod FrameShape
+pub mod PlacedPixels
+pub mod Spans
+pub mod Told
 pub mod UncoveredNotes
+pub mod Written

@@ -1,5 +1,6 @@
 -- Frames in which there is no box of a list.
-use Rattle.std.specs.Prelude.{◌≡◌, ◌≤◌, ◌<◌, ◌+◌, ◌-◌, ◌&&◌, ℕ, zero, suc, Bool, true, false, not, nat_lt, nat_le, if◌then◌else◌, List, [], ◌∷◌, Option, Some, None}
+use Rattle.std.specs.Prelude.{◌≡◌, ◌≤◌, ◌<◌, ◌+◌, ◌-◌, ◌&&◌, ℕ, zero, suc, Bool, true, false, not, nat_lt, nat_le, min, if◌then◌else◌, List, [], ◌∷◌, ◌++◌, Option, Some, None, codes}
+use Rattle.std.specs.Fmt.{decimal}
 use Rattle.std.specs.List.{list_any}
 use Rattle.frame_lists.specs.declared.ranges.Range.{Range}
 use Rattle.frame_lists.specs.declared.ranges.Range.TheVariants.{Frames, Times}
@@ -40,6 +41,20 @@ pub record AreCounted (p : ℕ → Bool) (count : ℕ) (bare : Bare) : Type 0 wh
   pub within : bare.end ≤ count
   pub longest : (a b : ℕ) → b ≤ count → AreBare p a b → b - a ≤ bare.end - bare.first
   pub earliest : (a b : ℕ) → a < b → b ≤ count → AreBare p a b → bare.end - bare.first ≤ b - a → bare.first ≤ a
+
+-- what is printed of them, as a fault or a note: how many there are of so many, and a stretch, whose frames count from 1
+abbrev pub bare_start : Bool → List ℕ
+bare_start true = codes "fault box\n"
+bare_start false = codes "note: "
+
+abbrev pub bare_count_text : ℕ → Bare → List ℕ
+bare_count_text count bare = decimal bare.frames ++ codes " of " ++ decimal count
+
+abbrev pub stretch_text : Bare → List ℕ
+stretch_text bare = codes "the longest stretch is " ++ decimal (min (bare.first + 1) 18446744073709551615) ++ codes " to " ++ decimal bare.end ++ 10 ∷ []
+
+abbrev pub bare_text : Bool → ℕ → Bare → List ℕ
+bare_text fault count bare = ((bare_start fault ++ bare_count_text count bare) ++ codes " frames have no box, ") ++ stretch_text bare
 
 -- a box begins at this frame or later, and so do all
 abbrev pub BeginsFrom : ℕ → Option (ℕ × ℕ) → Type 0

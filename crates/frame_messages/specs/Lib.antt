@@ -1,5 +1,8 @@
 pub mod Bare
 pub mod Ending
-pub mod Fault
 pub mod Lines
+pub mod Placed
+pub mod Reasons
+pub mod Report
+pub mod Told
 pub mod Unreached

@@ -1,9 +1,7 @@
 //! Why a line is no box, in words for standard error. Nothing here changes what is written or the
 //! status.
 
-use frame_lists::{
-    Tracked, WordsFault, box_text, read_box, read_decimal, read_frame, read_tracked,
-};
+use frame_lists::{Tracked, are_boxes, box_text, read_box, read_decimal, read_frame};
 use std::str;
 use texts::Parts;
 
@@ -12,13 +10,11 @@ const FIELDS: [&str; 6] = ["frame", "id", "left", "top", "width", "height"];
 
 /// Prints which line is no box, and why.
 pub(crate) fn say_bad_box(rt: &HostRuntime, text: Option<&[u8]>) {
-    let alloc = rt.alloc();
     let mut lines = Parts::new(text.unwrap_or(&[]), b'\n');
     let mut number: usize = 0;
     while let Some(line) = lines.next_part() {
         number = number.saturating_add(1);
-        // (a box for which no memory was found is not the bad line)
-        if !matches!(read_tracked(alloc, line), Err(WordsFault::NoEdit)) {
+        if are_boxes(line) {
             continue;
         }
         let _ = eprint!(rt; "at line {number} of the boxes: ");

@@ -1,12 +1,13 @@
 //! How many frames the input has to have: as an option asks, and as the lists of edits say.
 
-ghost use Rattle.std.specs.Prelude.{◌≡◌, ◌&&◌, not};
-ghost use Rattle.std.specs.Option.{option_map};
+ghost use Rattle.std.specs.Prelude.{◌≡◌, ◌&&◌};
 ghost use Rattle.frame_lists.specs.Counts.{agrees, says_none_else};
-ghost use Rattle.frame_messages.specs.Lines.{text_or_none};
+ghost use Rattle.frame_messages.specs.Ending.{is_other};
 
 use crate::places::Texts;
 use frame_lists::{agrees, read_count, says_none_else};
+use std::io;
+use std::io::Write;
 use texts::Parts;
 
 /// Whether these are as many frames as an option asks for. Each line of a tracker's list and of a list
@@ -32,38 +33,42 @@ fn find_other(count: u64, list: &[u8]) -> Option<(usize, usize)> {
     None
 }
 
-// Prints the fault, and who asked for which number of frames.
-fn say_counts(rt: &HostRuntime, count: u64, asked: Option<usize>, boxes: &[u8], edits: &[u8]) {
-    let _ = eprintln!(rt; "fault count");
-    if let Some(asked) = asked {
-        if !agrees(count, Some(asked)) {
-            let _ = eprintln!(rt; "the input has {count} frames, and --frames asks for {asked}");
-        }
-    }
-    if let Some((line, named)) = find_other(count, boxes) {
-        let _ = eprintln!(rt;
-            "line {line} of the boxes: the input has {count} frames, and the list was made from {named}"
-        );
-    }
-    if let Some((line, named)) = find_other(count, edits) {
-        let _ = eprintln!(rt;
-            "line {line}: the input has {count} frames, and the list was made from {named}"
-        );
-    }
-}
-
-/// Prints which number of frames was asked for, where these are another number. Returns whether they
-/// are.
-pub fn say_other_count(rt: &HostRuntime, count: u64, asked: Option<usize>, texts: Texts<'_>) -> bool
-    ensures other { result ≡ not (agrees count asked
-        && (says_none_else count (text_or_none (option_map (λ text. text.now) texts.entry.boxes))
-        && says_none_else count (text_or_none (option_map (λ text. text.now) texts.entry.edits)))) }
+/// Whether these are another number of frames than was asked for.
+pub(crate) fn is_other(count: u64, asked: Option<usize>, texts: Texts<'_>) -> bool
+    ensures other { result ≡ is_other count asked texts.entry }
 {
     let boxes = texts.boxes.unwrap_or(&[]);
     let edits = texts.edits.unwrap_or(&[]);
-    if is_wanted(count, asked, boxes, edits) {
-        return false;
+    !is_wanted(count, asked, boxes, edits)
+}
+
+/// Prints the fault, and who asked for which number of frames.
+pub(crate) fn say_counts<W: Write>(
+    count: u64,
+    asked: Option<usize>,
+    texts: Texts<'_>,
+    writer: &mut W,
+) -> io::Result<()> {
+    writeln!(writer, "fault count")?;
+    if let Some(asked) = asked {
+        if !agrees(count, Some(asked)) {
+            writeln!(
+                writer,
+                "the input has {count} frames, and --frames asks for {asked}"
+            )?;
+        }
     }
-    say_counts(rt, count, asked, boxes, edits);
-    true
+    if let Some((line, named)) = find_other(count, texts.boxes.unwrap_or(&[])) {
+        writeln!(
+            writer,
+            "line {line} of the boxes: the input has {count} frames, and the list was made from {named}"
+        )?;
+    }
+    if let Some((line, named)) = find_other(count, texts.edits.unwrap_or(&[])) {
+        writeln!(
+            writer,
+            "line {line}: the input has {count} frames, and the list was made from {named}"
+        )?;
+    }
+    Ok(())
 }

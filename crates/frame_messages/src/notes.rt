@@ -1,9 +1,9 @@
 //! Notes of one kind, or the lines of one fault, of which only the first are printed.
 
-ghost use Rattle.std.specs.Prelude.{◌≡◌, ◌<◌, nat_lt};
-
 use frame_edits::Paint;
 use image_planes::Change;
+use std::io;
+use std::io::Write;
 
 // So many of a kind are printed.
 const MOST: usize = 20;
@@ -11,7 +11,6 @@ const MOST: usize = 20;
 /// What is said of edits of one kind: notes, or a fault and its lines.
 #[derive(Clone, Copy)]
 pub(crate) struct Notes<'a> {
-    rt: &'a HostRuntime,
     // The fault, where it is one.
     fault: Option<&'a str>,
     count: usize,
@@ -19,47 +18,40 @@ pub(crate) struct Notes<'a> {
 
 impl<'a> Notes<'a> {
     /// None so far.
-    pub(crate) fn new(rt: &'a HostRuntime, strict: bool, fault: &'a str) -> Notes<'a>
-        ensures none { result.count ≡ 0 }
-    {
+    pub(crate) fn new(strict: bool, fault: &'a str) -> Notes<'a> {
         Notes {
-            rt,
             fault: if strict { Some(fault) } else { None },
             count: 0,
         }
     }
 
     /// Begins one more, and returns whether its line is to be printed.
-    pub(crate) fn begin(&mut self) -> bool
-        ensures some { 0 < self.new.count }
-    {
+    pub(crate) fn begin<W: Write>(&mut self, writer: &mut W) -> io::Result<bool> {
         if let Some(fault) = self.fault {
             if self.count == 0 {
-                let _ = eprintln!(self.rt; "{fault}");
+                writeln!(writer, "{fault}")?;
             }
         }
         self.count = self.count.saturating_add(1);
         if self.count > MOST {
-            return false;
+            return Ok(false);
         }
         if self.fault.is_none() {
-            let _ = eprint!(self.rt; "note: ");
+            write!(writer, "note: ")?;
         }
-        true
+        Ok(true)
     }
 
-    /// Prints how many more there are, and returns whether there is one.
-    pub(crate) fn end(self) -> bool
-        ensures some { result ≡ nat_lt 0 self.entry.count }
-    {
-        if self.count > MOST {
-            let more = self.count - MOST;
-            let _ = match self.fault {
-                Some(_) => eprintln!(self.rt; "and {more} more like these"),
-                None => eprintln!(self.rt; "note: and {more} more like these"),
-            };
+    /// Prints how many more there are.
+    pub(crate) fn end<W: Write>(self, writer: &mut W) -> io::Result<()> {
+        if self.count <= MOST {
+            return Ok(());
         }
-        self.count > 0
+        let more = self.count - MOST;
+        match self.fault {
+            Some(_) => writeln!(writer, "and {more} more like these"),
+            None => writeln!(writer, "note: and {more} more like these"),
+        }
     }
 }
 

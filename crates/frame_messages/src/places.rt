@@ -5,6 +5,7 @@ use crate::lines::Lines;
 use frame_edits::{BoxStyle, first_frame, held_at};
 use frame_lists::{box_text, put_by_tracks, read_box, read_tracked, track_of};
 use std::alloc::{AllocError, Global};
+use std::fmt;
 use texts::Parts;
 
 /// The texts of the files that name edits. The boxes come first.
@@ -175,17 +176,17 @@ impl Places<'_> {
     }
 }
 
-/// Prints the place of an edit.
-pub(crate) fn say_name(rt: &HostRuntime, place: Place) {
-    let _ = match place {
-        Place::Box(line) => eprint!(rt; "line {line} of the boxes"),
-        Place::Line(line) => eprint!(rt; "line {line}"),
-        Place::Edit(number) => eprint!(rt; "edit {number}"),
-    };
+impl fmt::Display for Place {
+    fn fmt<W: fmt::Write>(&self, f: &mut fmt::Formatter<W>) -> fmt::Result {
+        match self {
+            Place::Box(line) => write!(f, "line {line} of the boxes"),
+            Place::Line(line) => write!(f, "line {line}"),
+            Place::Edit(number) => write!(f, "edit {number}"),
+        }
+    }
 }
 
-/// The same before what is said of it.
+/// Prints the place of an edit, before what is said of it.
 pub(crate) fn say_place(rt: &HostRuntime, place: Place) {
-    say_name(rt, place);
-    let _ = eprint!(rt; ": ");
+    let _ = eprint!(rt; "{place}: ");
 }

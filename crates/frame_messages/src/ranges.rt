@@ -12,11 +12,14 @@ use crate::places::{Place, Texts, say_place};
 use frame_edits::Edit;
 use frame_heads::Rate;
 use frame_requests::Seen;
+use std::alloc::Global;
+use std::io;
+use std::io::Write;
 
 /// The edits of a run and where each is named, for what is said of those that did nothing.
 #[derive(Clone, Copy)]
 pub struct Noted<'a> {
-    pub rt: &'a HostRuntime,
+    pub alloc: Global,
     pub steps: &'a [Edit],
     pub texts: Texts<'a>,
     /// Whether it is a fault.
@@ -36,38 +39,49 @@ fn unreached(edit: &Edit, count: u64, rate: Option<Rate>) -> Option<(u64, u64)>
 }
 
 impl Noted<'_> {
-    /// Prints each range of frames that the input, which had so many, didn't reach. Returns whether
-    /// there is one.
-    #[tactic(auto, using(crate::proofs::AnyNoted::one_passed, crate::proofs::AnyNoted::one_noted, crate::proofs::AnyNoted::all_noted))]
-    pub fn say_unreached(self, count: u64, rate: Option<Rate>) -> bool
+    /// Whether the input, which had so many frames, ends before a range.
+    pub fn is_any_unreached(self, count: u64, rate: Option<Rate>) -> bool
         ensures unreached { result
             ≡ list_any (λ e. is_unreached count rate e) self.entry.steps.now }
     {
-        let rt = self.rt;
-        let mut notes = Notes::new(rt, self.strict, "fault range");
+        self.steps
+            .iter()
+            .any(|edit| unreached(edit, count, rate).is_some())
+    }
+
+    /// Prints each range of frames that the input, which had so many, didn't reach.
+    pub fn say_unreached<W: Write>(
+        self,
+        count: u64,
+        rate: Option<Rate>,
+        writer: &mut W,
+    ) -> io::Result<()> {
+        let mut notes = Notes::new(self.strict, "fault range");
         // The numbers only grow, so all lines are read once.
-        let mut places = self.texts.places(rt.alloc());
+        let mut places = self.texts.places(self.alloc);
         for number in 0..self.steps.len() {
             let Some((first, end)) = unreached(&self.steps[number], count, rate) else {
                 continue;
             };
-            if !notes.begin() {
+            if !notes.begin(writer)? {
                 continue;
             }
             let place = places.find(number);
-            say_place(rt, place);
-            let _ = eprint!(rt; "the input has {count} frames, and ends before ");
-            let _ = match place {
-                Place::Box(_) => eprintln!(rt; "frame {} of the list", first.saturating_add(1)),
-                _ if end < u64::MAX => eprintln!(rt; "its range {first}..{end}"),
-                _ => eprintln!(rt; "its range {first}.."),
-            };
+            write!(
+                writer,
+                "{place}: the input has {count} frames, and ends before "
+            )?;
+            match place {
+                Place::Box(_) => writeln!(writer, "frame {} of the list", first.saturating_add(1))?,
+                _ if end < u64::MAX => writeln!(writer, "its range {first}..{end}")?,
+                _ => writeln!(writer, "its range {first}..")?,
+            }
         }
-        notes.end()
+        notes.end(writer)
     }
 
-    /// Prints each cover that covers nothing in a frame of so many, and returns whether there is one.
-    pub fn say_uncovered(self, seen: &Seen, count: u64) -> bool
+    /// Whether a cover covers nothing in a frame of so many.
+    pub fn is_any_uncovered(self, seen: &Seen, count: u64) -> bool
         ensures some { (shapes : List (ℕ × Shape)) → Sees self.entry.steps.now shapes seen.now
             → last_seen seen.now ≤ count → result ≡ true
             → IsAnyUncovered shapes self.entry.steps.now count }
@@ -75,28 +89,43 @@ impl Noted<'_> {
             → last_seen seen.now ≤ count → result ≡ false
             → IsAnyUncovered shapes self.entry.steps.now count → ⊥ }
     {
-        let rt = self.rt;
-        let mut notes = Notes::new(rt, self.strict, "fault cover");
-        let mut places = self.texts.places(rt.alloc());
+        for number in 0..self.steps.len() {
+            if seen.uncovered(number, &self.steps[number], count).is_some() {
+                return true;
+            }
+        }
+        false
+    }
+
+    /// Prints each cover that covers nothing in a frame of so many.
+    pub fn say_uncovered<W: Write>(
+        self,
+        seen: &Seen,
+        count: u64,
+        writer: &mut W,
+    ) -> io::Result<()> {
+        let mut notes = Notes::new(self.strict, "fault cover");
+        let mut places = self.texts.places(self.alloc);
         for number in 0..self.steps.len() {
             let Some(found) = seen.uncovered(number, &self.steps[number], count) else {
                 continue;
             };
-            if !notes.begin() {
+            if !notes.begin(writer)? {
                 continue;
             }
             let place = places.find(number);
-            say_place(rt, place);
-            let _ = match place {
-                Place::Box(_) => eprint!(rt;
-                    "it covers nothing in frame {} of the list",
-                    found.frame.saturating_add(1)
-                ),
-                _ => eprint!(rt; "it covers nothing in frame {}", found.frame),
-            };
-            let _ = eprintln!(rt; ", which has {} by {} pixels", found.width, found.height);
+            write!(writer, "{place}: it covers nothing in frame ")?;
+            match place {
+                Place::Box(_) => write!(writer, "{} of the list", found.frame.saturating_add(1))?,
+                _ => write!(writer, "{}", found.frame)?,
+            }
+            writeln!(
+                writer,
+                ", which has {} by {} pixels",
+                found.width, found.height
+            )?;
         }
-        notes.end()
+        notes.end(writer)
     }
 }
 

@@ -1,14 +1,19 @@
 //! Why a run ended, in words for standard error. Nothing here changes what is written or the status.
+//!
+//! Which edit is bad is decided by the crate that makes plans. Here it is only told why.
+
+ghost use Rattle.frame_edits.specs.Lists.{plain};
+ghost use Rattle.frame_messages.specs.Reasons.{TellsBadOf};
 
 use crate::bad_boxes::say_bad_box;
 use crate::bad_edits::{say_bad_line, say_bad_word};
 use crate::beginnings::shown;
-use crate::fault::RunFault;
 use crate::places::{Texts, say_place};
 use crate::ranges::say_no_frames;
 use frame_edits::{Edit, Edits, Framing, Paint, Scope, turns_over};
-use frame_heads::{Chroma, Format, Kind, Picture};
-use frame_requests::{Misread, Refusal, Seen, Shape};
+use frame_formats::{Unsuited, unsuited_in_picture, unsuited_in_video};
+use frame_heads::{Format, Kind, Picture};
+use frame_requests::{Misread, Refusal, RunFault, Seen, Shape};
 use image_planes::{Change, Window};
 
 // A frame: its size, how many columns and rows of pixels share a chroma sample, and the greatest
@@ -27,12 +32,7 @@ struct Frame {
 
 impl Frame {
     fn of_video(format: Format) -> Frame {
-        let (across, down) = match format.chroma {
-            Chroma::Mono | Chroma::Whole | Chroma::WholeAlpha => (1, 1),
-            Chroma::Small => (2, 2),
-            Chroma::Wide => (2, 1),
-            Chroma::Quarter => (4, 1),
-        };
+        let (across, down) = format.chroma.sampling();
         Frame {
             width: format.width,
             height: format.height,
@@ -238,7 +238,11 @@ fn check_framing(frame: Frame, framing: Framing) -> Option<Wrong> {
     }
 }
 
-fn say_wrong(rt: &HostRuntime, wrong: Wrong) {
+fn say_wrong(rt: &HostRuntime, wrong: Option<Wrong>) {
+    let Some(wrong) = wrong else {
+        let _ = eprintln!(rt; "a frame of this size can't be edited");
+        return;
+    };
     let _ = match wrong {
         Wrong::Outside => eprintln!(rt; "it reaches outside the frame"),
         Wrong::NoSize => eprintln!(rt; "its size is 0"),
@@ -264,26 +268,45 @@ fn say_wrong(rt: &HostRuntime, wrong: Wrong) {
     };
 }
 
-fn say_outside(rt: &HostRuntime, frame: Frame, edits: &Edits, texts: Texts<'_>) {
+// What isn't one of a frame of this shape.
+fn find_unsuited(shape: Shape, edits: &Edits) -> Option<Unsuited>
+    ensures { TellsBadOf shape (plain edits.now) result }
+{
+    match shape {
+        Shape::Video(format, rate) => {
+            unsuited_in_video(format, rate, &edits.steps, edits.framing)
+        }
+        Shape::Picture(picture) => unsuited_in_picture(picture, &edits.steps, edits.framing),
+    }
+}
+
+// Prints what is wrong with the edit of this number.
+fn say_bad_edit(rt: &HostRuntime, frame: Frame, number: usize, edits: &Edits, texts: Texts<'_>) {
+    say_place(rt, texts.places(rt.alloc()).find(number));
+    let wrong = match edits.steps.get(number) {
+        Some(edit) => check_edit(frame, *edit),
+        None => None,
+    };
+    say_wrong(rt, wrong);
+}
+
+// Prints what is wrong with what becomes of the size.
+fn say_bad_size(rt: &HostRuntime, frame: Frame, framing: Framing) {
+    let _ = match framing {
+        Framing::Turn(_) => eprint!(rt; "the turn: "),
+        _ => eprint!(rt; "the crop or pad: "),
+    };
+    say_wrong(rt, check_framing(frame, framing));
+}
+
+fn say_outside(rt: &HostRuntime, shape: Shape, edits: &Edits, texts: Texts<'_>) {
+    let frame = Frame::of(shape);
     let _ = eprintln!(rt; "the frame has {} by {} pixels", frame.width, frame.height);
-    for number in 0..edits.steps.len() {
-        if let Some(wrong) = check_edit(frame, edits.steps[number]) {
-            say_place(rt, texts.places(rt.alloc()).find(number));
-            say_wrong(rt, wrong);
-            return;
-        }
+    match (find_unsuited(shape, edits), edits.framing) {
+        (Some(Unsuited::Edit(number)), _) => say_bad_edit(rt, frame, number, edits, texts),
+        (Some(Unsuited::Size), Some(framing)) => say_bad_size(rt, frame, framing),
+        _ => say_wrong(rt, None),
     }
-    if let Some(framing) = edits.framing {
-        if let Some(wrong) = check_framing(frame, framing) {
-            let _ = match framing {
-                Framing::Turn(_) => eprint!(rt; "the turn: "),
-                _ => eprint!(rt; "the crop or pad: "),
-            };
-            say_wrong(rt, wrong);
-            return;
-        }
-    }
-    let _ = eprintln!(rt; "a frame of this size can't be edited");
 }
 
 /// Prints why the run ended: which edit, the size of the frame, and what is wrong.
@@ -299,7 +322,7 @@ pub fn say_reason(
         RunFault::Outside => {
             if !say_no_frames(rt, seen.rate(), &edits.steps, texts) {
                 if let Some(shape) = seen.shape() {
-                    say_outside(rt, Frame::of(shape), edits, texts);
+                    say_outside(rt, shape, edits, texts);
                 }
             }
             Ok(())

@@ -69,7 +69,7 @@ first_past shapes e first end none order None is = λ n before u. elim (cases_lt
 
 -- ---- one shape more
 
-shape_before : (shapes : List (ℕ × Shape)) (number : ℕ) (shape : Shape) (n : ℕ) → n < number → shape_at ((number, shape) ∷ shapes) n ≡ shape_at shapes n
+pub shape_before : (shapes : List (ℕ × Shape)) (number : ℕ) (shape : Shape) (n : ℕ) → n < number → shape_at ((number, shape) ∷ shapes) n ≡ shape_at shapes n
 shape_before shapes number shape n before = grind (arith, before)
 
 pub shape_from : (shapes : List (ℕ × Shape)) (number : ℕ) (shape : Shape) (n : ℕ) → number ≤ n → shape_at ((number, shape) ∷ shapes) n ≡ Some shape
@@ -277,27 +277,6 @@ module _ (shapes : List (ℕ × Shape)) (seen : Seen) (last : HasLastShape shape
   -- what ends a stretch knows of the frames up to the end
   pub ends : (old new : Known) (steps : List Edit) → ((shapes : List (ℕ × Shape)) → HasItsShape shapes s → s.first ≤ s.end → Knows old steps shapes (λ at. s.first) → Knows new steps shapes (λ at. s.end)) → seen.first ≤ end → Knows old steps shapes (λ at. seen.first) → Knows new steps shapes (λ at. end)
   ends old new steps done order knows = subst (λ n. Knows new steps shapes (λ at. n)) is.end_is (done shapes has_its_shape (omega (arith, order, is.first_is, is.end_is)) (subst (λ n. Knows old steps shapes (λ at. n)) (sym is.first_is) knows))
-
--- ---- one shape more was seen
-
--- it is the last one again
-pub sees_same : (steps : List Edit) (shapes : List (ℕ × Shape)) (s : Seen) (number : ℕ) (shape : Shape) → s.shape ≡ Some shape → Sees steps shapes s → last_seen s ≤ number
-    → Sees steps ((number, shape) ∷ shapes) (record { shape = s.shape; first = s.first; last = number; known = s.known; shapes = s.shapes })
-sees_same steps shapes s number shape same sees order = record {
-  last_shape = λ n from. elim (cases_lt n number) [ inl before ↦ shape_before shapes number shape n before ∙ sees.last_shape n from | inr past ↦ shape_from shapes number shape n past ∙ sym same ];
-  last = refl;
-  within = omega (arith, sees.within, order);
-  knows = knows_with s.known steps shapes number shape s.first (omega (arith, sees.within, order)) sees.knows;
-}
-
--- it is another one, and the frames before it are known
-pub sees_other : (steps : List Edit) (shapes : List (ℕ × Shape)) (s : Seen) (number : ℕ) (shape : Shape) → s.shape ≡ Some shape → s.first ≡ number → s.last ≡ number → Knows s.known steps shapes (λ at. number) → Sees steps ((number, shape) ∷ shapes) s
-sees_other steps shapes s number shape shape_is first_is last_is knows = record {
-  last_shape = λ n from. shape_from shapes number shape n (omega (arith, from, first_is)) ∙ sym shape_is;
-  last = last_is;
-  within = omega (arith, first_is, last_is);
-  knows = subst (λ n. Knows s.known steps ((number, shape) ∷ shapes) (λ at. n)) (sym first_is) (knows_with s.known steps shapes number shape number (omega arith) knows);
-}
 
 -- ---- what is told of an edit
 

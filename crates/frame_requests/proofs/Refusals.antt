@@ -1,9 +1,9 @@
 -- Why words and lines are refused.
-use Rattle.std.proofs.Common.{◌≡◌, ℕ, List, [], ◌++◌, Some, None, refl, ap, subst, ◌∙◌}
+use Rattle.std.proofs.Common.{◌≡◌, ◌≢◌, ℕ, List, [], ◌++◌, Some, None, refl, ap, subst, ◌∙◌}
 use Rattle.std.specs.List.{flat_map}
 use Rattle.text_model.specs.Parts.{parts_of}
 use Rattle.frame_edits.specs.Edits.{Edits, edits}
-use Rattle.frame_edits.specs.Lists.{Adds, AreEdits, NeedsMemory, NeedsPlace, framing_after, plain, with_lines}
+use Rattle.frame_edits.specs.Lists.{Adds, AreEdits, HaveEdits, NeedsMemory, NeedsPlace, framing_after, plain, with_lines}
 use Rattle.frame_edits.specs.Words.{Named}
 use Rattle.frame_edits.specs.declared.lists.Edits.{Edits as Made}
 use Rattle.frame_lists.specs.declared.fault.WordsFault.{WordsFault}
@@ -13,13 +13,13 @@ use Rattle.frame_requests.specs.declared.words.Refusal.{Refusal}
 use Rattle.frame_requests.specs.declared.words.Refusal.TheVariants.{Empty, NoFrame}
 
 -- a fault of words is why they are refused
-pub no_words : (words : List (List ℕ)) (fault : WordsFault) → (fault ≡ NoEdit → (named : List Named) → AreEdits named None words → ⊥) → (fault ≡ NoMemory → NeedsMemory None words) → RefusesWords words (refusal_of fault)
-no_words words NoEdit none memory = none refl
-no_words words NoMemory none memory = memory refl
+pub no_words : (words : List (List ℕ)) (fault : WordsFault) → (fault ≡ NoEdit → (named : List Named) → AreEdits named None words → ⊥) → (fault ≡ NoMemory → HaveEdits None words) → (fault ≡ NoMemory → NeedsMemory None words) → RefusesWords words (refusal_of fault)
+no_words words NoEdit none are memory = none refl
+no_words words NoMemory none are memory = record { are = are refl; needs = memory refl }
 
-pub no_lines : (text : List ℕ) (fault : WordsFault) → (fault ≡ NoEdit → with_lines (edits [] None) (parts_of 10 text) ≡ None) → (fault ≡ NoMemory → NeedsPlace (edits [] None) (parts_of 10 text)) → RefusesLines text (refusal_of fault)
-no_lines text NoEdit none memory = none refl
-no_lines text NoMemory none memory = memory refl
+pub no_lines : (text : List ℕ) (fault : WordsFault) → (fault ≡ NoEdit → with_lines (edits [] None) (parts_of 10 text) ≡ None) → (fault ≡ NoMemory → with_lines (edits [] None) (parts_of 10 text) ≢ None) → (fault ≡ NoMemory → NeedsPlace (edits [] None) (parts_of 10 text)) → RefusesLines text (refusal_of fault)
+no_lines text NoEdit none are memory = none refl
+no_lines text NoMemory none are memory = record { are = are refl; needs = memory refl }
 
 -- what words add to no edits are the edits that the words are
 pub added_words : (words : List (List ℕ)) (old new : Made) → old.steps.items ≡ [] → old.framing ≡ None → Adds words old new → AreWords words (plain new)

@@ -1,9 +1,8 @@
 -- Edits that begin with the boxes of a tracker's list.
-use Rattle.std.specs.Prelude.{◌≡◌, false, ℕ, IsTrue, List, [], ◌++◌, Option, Some, None}
-use Rattle.text_model.specs.Parts.{parts_of}
+use Rattle.std.specs.Prelude.{◌≡◌, false, ℕ, List, [], ◌++◌, Option, Some, None}
 use Rattle.text_model.specs.Reading.{is_nil}
-use Rattle.frame_lists.specs.Boxes.{begins_with_box, each_box}
-use Rattle.frame_edits.specs.BoxCovers.{AreCovers, cover_of}
+use Rattle.frame_lists.specs.Boxes.{HasBoxes, each_box}
+use Rattle.frame_edits.specs.BoxCovers.{AreCovers}
 use Rattle.frame_edits.specs.Edits.{Edits}
 use Rattle.frame_edits.specs.Holds.{AreHeld}
 use Rattle.frame_edits.specs.declared.box_covers.BoxStyle.{BoxStyle}
@@ -16,11 +15,6 @@ use Rattle.frame_requests.specs.declared.words.Refusal.TheVariants.{NoBoxes, Emp
 abbrev pub CoverBoxes : BoxStyle → List ℕ → Option ℕ → List Edit → Type 0
 CoverBoxes style text None covers = AreCovers style text covers
 CoverBoxes style text (Some hold) covers = AreHeld style text hold covers
-
--- a line of the text is no box
-abbrev pub NoBoxList : BoxStyle → List ℕ → Option ℕ → Type 0
-NoBoxList style text None = each_box (cover_of style) text ≡ None
-NoBoxList style text (Some hold) = each_box (λ b. b) text ≡ None
 
 -- the covers of all boxes of a text, of which there is one, and after them the edits
 pub record BeginsWithBoxes (style : BoxStyle) (text : List ℕ) (hold : Option ℕ) (others new : Edits) : Type 0 where
@@ -36,10 +30,10 @@ pub record HasEmptyRange (style : BoxStyle) (text : List ℕ) (hold : Option ℕ
   pub are : CoverBoxes style text hold covers
   pub first : IsFirstEmpty (covers ++ others.steps) at
 
--- why boxes and the edits after them are refused: a line is no box, there is no box, a range has no frame, or there was no memory, which is needed only where the first line with a word is a box
+-- why boxes and the edits after them are refused: a line is no box, there is no box, a range has no frame, or there was no memory. Memory is needed only where there is a box, and a bad line is told whatever memory there is
 abbrev pub BoxesAreRefused : BoxStyle → List ℕ → Option ℕ → Edits → Refusal → Type 0
-BoxesAreRefused style text hold others NoBoxes = NoBoxList style text hold
+BoxesAreRefused style text hold others NoBoxes = each_box text ≡ None
 BoxesAreRefused style text hold others EmptyBoxes = CoverBoxes style text hold []
 BoxesAreRefused style text hold others (NoFrame at) = HasEmptyRange style text hold others at
-BoxesAreRefused style text hold others Memory = IsTrue (begins_with_box (parts_of 10 text))
+BoxesAreRefused style text hold others Memory = HasBoxes text
 BoxesAreRefused style text hold others _ = ⊥

@@ -1,6 +1,7 @@
 pub mod Apart
 pub mod Asked
 pub mod Boxes
+pub mod Fault
 pub mod Late
 pub mod Options
 pub mod Seen

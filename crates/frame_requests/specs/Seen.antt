@@ -1,5 +1,5 @@
 -- What was read last of the input of a run, and in which frames an edit covers nothing.
-use Rattle.std.specs.Prelude.{◌≡◌, ◌≢◌, ◌≤◌, ◌<◌, ◌+◌, ◌⊎◌, ◌==◌, ℕ, Bool, true, nat_lt, if◌then◌else◌, List, [], ◌∷◌, Option, Some, None, IfSome, get_or, length}
+use Rattle.std.specs.Prelude.{◌≡◌, ◌≢◌, ◌≤◌, ◌<◌, ◌+◌, ◌⊎◌, ◌==◌, ℕ, Bool, true, nat_lt, if◌then◌else◌, List, [], ◌∷◌, ◌++◌, reverse, Option, Some, None, IfSome, get_or, length}
 use Rattle.std.specs.List.{slice_get}
 use Rattle.std.specs.Option.{is_some, option_map}
 use Rattle.text_model.specs.Reading.{◌>>=◌}
@@ -101,12 +101,39 @@ abbrev pub last_number : List (ℕ × Shape) → ℕ
 last_number [] = 0
 last_number (s ∷ older) = s.0
 
+-- the shapes that are kept for a report, in the order of their frames
+abbrev pub kept_shapes : Seen → Option (List (ℕ × Shape))
+kept_shapes s = option_map (λ shapes. shapes.items) s.shapes
+
+-- the numbers of shapes, the last first, don't rise, and none is above this
+abbrev pub AreUpTo : ℕ → List (ℕ × Shape) → Type 0
+AreUpTo most [] = Unit {0}
+AreUpTo most (s ∷ older) = (s.0 ≤ most) × AreUpTo s.0 older
+
+-- by shapes that are kept each frame has its shape
+pub record AreKept (shapes : List (ℕ × Shape)) (most : ℕ) (kept : List (ℕ × Shape)) : Type 0 where
+  pub same : (n : ℕ) → shape_at (reverse kept) n ≡ shape_at shapes n
+  pub in_order : AreUpTo most (reverse kept)
+
+-- this shape was kept after others, or there was no memory for it
+abbrev pub KeepsShape : ℕ × Shape → Option (List (ℕ × Shape)) → Option (List (ℕ × Shape)) → Type 0
+KeepsShape s old None = Unit {0}
+KeepsShape s None (Some new) = ⊥
+KeepsShape s (Some old) (Some new) = new ≡ old ++ s ∷ []
+
 -- frames of these shapes were seen, with these edits
 pub record Sees (steps : List Edit) (shapes : List (ℕ × Shape)) (s : Seen) : Type 0 where
   pub last_shape : HasLastShape shapes s
   pub last : s.last ≡ last_number shapes
   pub within : s.first ≤ s.last
   pub knows : Knows s.known steps shapes (λ at. s.first)
+  pub kept : IfSome (kept_shapes s) (AreKept shapes s.first)
+
+-- two have seen frames of the same shapes
+pub record SeeTheSame (steps : List Edit) (s t : Seen) : Type 0 where
+  pub shapes : List (ℕ × Shape)
+  pub mine : Sees steps shapes s
+  pub theirs : Sees steps shapes t
 
 -- there was memory to know it of the edit of this number
 abbrev pub is_told : Seen → ℕ → Bool
@@ -156,6 +183,7 @@ pub record SameButShapes (old new : Seen) : Type 0 where
   pub known : new.known ≡ old.known
 
 pub record SameButKnown (old new : Seen) : Type 0 where
+  pub shapes : new.shapes ≡ old.shapes
   pub shape : new.shape ≡ old.shape
   pub first : new.first ≡ old.first
   pub last : new.last ≡ old.last

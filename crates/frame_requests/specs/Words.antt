@@ -1,11 +1,11 @@
 -- The edits that words or the lines of a file are, and which of them are refused.
-use Rattle.std.specs.Prelude.{◌≡◌, ◌&&◌, ◌<◌, ℕ, Bool, true, false, nat_lt, IsTrue, List, [], All, Some, None, IfSome, length, take}
+use Rattle.std.specs.Prelude.{◌≡◌, ◌≢◌, ◌&&◌, ◌<◌, ℕ, Bool, true, false, nat_lt, IsTrue, List, [], All, Some, None, IfSome, length, take}
 use Rattle.std.specs.List.{flat_map, list_any, slice_get}
 use Rattle.std.specs.Option.{is_none}
 use Rattle.text_model.specs.Parts.{parts_of}
 use Rattle.text_model.specs.Reading.{is_nil}
 use Rattle.frame_edits.specs.Edits.{Edits, edits}
-use Rattle.frame_edits.specs.Lists.{AreEdits, NeedsMemory, NeedsPlace, framing_after, with_lines}
+use Rattle.frame_edits.specs.Lists.{AreEdits, HaveEdits, NeedsMemory, NeedsPlace, framing_after, with_lines}
 use Rattle.frame_edits.specs.Words.{Named}
 use Rattle.image_planes.specs.Scratch.{is_blur}
 use Rattle.frame_lists.specs.declared.ranges.Range.{Range}
@@ -52,16 +52,26 @@ pub record Refused (Are : Edits → Type 0) (why : Refusal) : Type 0 where
   pub are : Are edits
   pub refused : AreRefused edits why
 
+-- words are edits, and the first has a step, for which there is no memory
+pub record WordsNeedMemory (words : List (List ℕ)) : Type 0 where
+  pub are : HaveEdits None words
+  pub needs : NeedsMemory None words
+
+-- the same of the lines of a text
+pub record LinesNeedMemory (text : List ℕ) : Type 0 where
+  pub are : with_lines (edits [] None) (parts_of 10 text) ≢ None
+  pub needs : NeedsPlace (edits [] None) (parts_of 10 text)
+
 -- why words are refused: they are no edits, or there is no memory for the first one, which has a step, or their edits are refused
 abbrev pub RefusesWords : List (List ℕ) → Refusal → Type 0
 RefusesWords words NoEdits = (named : List Named) → AreEdits named None words → ⊥
-RefusesWords words Memory = NeedsMemory None words
+RefusesWords words Memory = WordsNeedMemory words
 RefusesWords words why = Refused (AreWords words) why
 
--- the same of the lines of a text; memory is needed only where a line is an edit with a step, and those before it are edits
+-- the same of the lines of a text; memory is needed only where a line is an edit with a step, and all are edits
 abbrev pub RefusesLines : List ℕ → Refusal → Type 0
 RefusesLines text NoEdits = with_lines (edits [] None) (parts_of 10 text) ≡ None
-RefusesLines text Memory = NeedsPlace (edits [] None) (parts_of 10 text)
+RefusesLines text Memory = LinesNeedMemory text
 RefusesLines text why = Refused (λ e. with_lines (edits [] None) (parts_of 10 text) ≡ Some e) why
 
 -- why words or lines are no edits

@@ -1,9 +1,8 @@
 //! A tracker's list, whose boxes are covered before other edits.
 
-ghost use Rattle.std.specs.Prelude.{◌≡◌, ◌<◌, IfErr, IfOk, IsTrue, length};
-ghost use Rattle.frame_requests.specs.Boxes.{BeginsWithBoxes, BoxesAreRefused, CoverBoxes, NoBoxList};
-ghost use Rattle.frame_lists.specs.Boxes.{begins_with_box};
-ghost use Rattle.text_model.specs.Parts.{parts_of};
+ghost use Rattle.std.specs.Prelude.{◌≡◌, IfErr, IfOk};
+ghost use Rattle.frame_requests.specs.Boxes.{BeginsWithBoxes, BoxesAreRefused, CoverBoxes};
+ghost use Rattle.frame_lists.specs.Boxes.{HasBoxes, each_box};
 ghost use Rattle.frame_requests.specs.Words.{AreUsable};
 ghost use Rattle.frame_edits.specs.Lists.{plain};
 
@@ -20,11 +19,8 @@ fn covers_of(
     hold: Option<usize>,
 ) -> Result<Vec<Edit>, WordsFault>
     ensures covers { IfOk result (λ covers. CoverBoxes style text.now hold covers.items) }
-    ensures some { IfOk result (λ covers. 0 < length covers.items
-        → IsTrue (begins_with_box (parts_of 10 text.now))) }
-    ensures none { IfErr result (λ e. e ≡ WordsFault.NoEdit → NoBoxList style text.now hold) }
-    ensures memory { IfErr result
-        (λ e. e ≡ WordsFault.Memory → IsTrue (begins_with_box (parts_of 10 text.now))) }
+    ensures none { IfErr result (λ e. e ≡ WordsFault.NoEdit → each_box text.now ≡ None) }
+    ensures memory { IfErr result (λ e. e ≡ WordsFault.Memory → HasBoxes text.now) }
 {
     match hold {
         None => read_boxes(alloc, text, style),
@@ -37,8 +33,9 @@ fn covers_of(
 ///
 /// # Errors
 ///
-/// `NoBoxes` where a line is no box, `EmptyBoxes` where there is none, and `NoFrame` where the range of
-/// an edit has no frame. `Memory` only where the first line with a word is a box.
+/// `NoBoxes` where a line is no box, whatever memory there is. `EmptyBoxes` where there is none, and
+/// `NoFrame` where the range of an edit has no frame. `Memory` only where there is a box.
+#[tactic(auto, using(crate::proofs::BoxCovers::covers_have_boxes))]
 pub fn with_boxes(
     alloc: Global,
     text: &[u8],

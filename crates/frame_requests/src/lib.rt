@@ -1,10 +1,11 @@
 //! What a person asks for by words and lists: options, edits, and which of them are refused. And what
-//! was found of the input of a run.
+//! was found of the input of a run, and why a run ended.
 #![tactic(auto)]
 
 mod apart;
 mod asked;
 mod boxes;
+mod fault;
 mod late;
 mod options;
 mod seen;
@@ -13,6 +14,7 @@ mod words;
 pub use apart::{FileId, Files, Role, are_one, reads_input_twice, shared_file};
 pub use asked::edits_asked;
 pub use boxes::with_boxes;
+pub use fault::RunFault;
 pub use late::{Hiding, late_pairs};
 pub use options::{Misread, Options, read_options};
 pub use seen::{Seen, Shape, Stretch, Uncovered};

@@ -1,7 +1,8 @@
 //! What was found of the input of a run.
 
-ghost use Rattle.std.specs.Prelude.{◌≡◌, ◌≤◌, ◌<◌, ℕ, None, Some, IfSome, List, [], ◌∷◌, true, false};
+ghost use Rattle.std.specs.Prelude.{◌≡◌, ◌≤◌, ◌<◌, ℕ, None, Some, IfSome, List, [], ◌∷◌, reverse, true, false};
 ghost use Rattle.std.specs.List.{slice_get};
+ghost use Rattle.std.specs.Option.{option_map};
 
 use frame_edits::{
     Edit, picture_covers_nothing, picture_window, video_covers_nothing, video_window,
@@ -255,7 +256,7 @@ impl Seen {
     // These name the type itself.
     ghost use Rattle.frame_edits.specs.declared.words.Edit.{Edit};
     ghost use Rattle.frame_requests.specs.declared.seen.Shape.{Shape};
-    ghost use Rattle.frame_requests.specs.Seen.{HasLastShape, IsFirstUncovered, IsOtherTold, Knows, NoneUncovered, SameButKnown, SameButShapes, Sees, is_told, last_seen, rate_seen, shape_seen, stretch_of};
+    ghost use Rattle.frame_requests.specs.Seen.{HasLastShape, IsFirstUncovered, IsOtherTold, KeepsShape, Knows, NoneUncovered, SameButKnown, SameButShapes, Sees, is_told, kept_shapes, last_seen, rate_seen, shape_at, shape_seen, stretch_of};
 
     /// No line and no head.
     pub fn nothing(alloc: Global) -> Seen
@@ -285,7 +286,14 @@ impl Seen {
     }
 
     /// The shapes, each with the number of its first frame, where all were kept.
-    pub fn shapes(&self) -> Option<&[(u64, Shape)]> {
+    pub fn shapes(&self) -> Option<&[(u64, Shape)]>
+        ensures shapes { option_map (λ shapes. shapes.now) result ≡ kept_shapes self.now }
+
+        // By these each frame has the shape that was seen of it.
+        ensures kept { (steps : List Edit) (shapes : List (ℕ × Shape)) → Sees steps shapes self.now
+            → IfSome result (λ kept. (n : ℕ)
+            → shape_at (reverse kept.now) n ≡ shape_at shapes n) }
+    {
         match &self.shapes {
             Some(shapes) => Some(shapes),
             None => None,
@@ -306,6 +314,7 @@ impl Seen {
     // Keeps a shape for a report.
     fn keep_shape(&mut self, number: u64, shape: Shape)
         ensures others { SameButShapes self.old self.new }
+        ensures kept { KeepsShape (number, shape) (kept_shapes self.old) (kept_shapes self.new) }
     {
         let is_kept = match &mut self.shapes {
             Some(shapes) => shapes.push((number, shape)).is_ok(),

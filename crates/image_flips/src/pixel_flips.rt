@@ -13,10 +13,10 @@ ghost use Rattle.image_writes.specs.Mirrored.{mirrored_by};
 ghost use Rattle.image_writes.specs.Written.{Becomes};
 
 use crate::flipping::{flip_columns, flip_rows};
-use crate::parts::exact_part;
 use crate::swapping::swap_pixels;
 use crate::triples::{reverse_triples, triples_pay};
 use image_shape::{Shape, Window};
+use image_writes::exact_part;
 
 /// The first row of the window changes places with its last, and so on; every other cell stays. The
 /// cells fit the shape, and the window is inside it.

@@ -1,7 +1,7 @@
 -- A multiplication by a factor is a division, where the number is small.
 use Rattle.std.proofs.Common.{◌≡◌, ℕ, ◌+◌, ◌-◌, ◌*◌, ◌/◌, ◌%◌, ◌<◌, ◌≤◌, ◌^◌, Bool, true, false, nat_le, if◌then◌else◌, refl, sym, ap, ◌∙◌, arith}
 use Rattle.std.proofs.lemmas.Nat.{div-mul-add, div-add-mod', mod_below, mul-le}
-use Rattle.std.proofs.Math.Nat.{mul_assoc, mul_comm, mul_left_comm, add-mul, mul-le-mul_right, lt_of_mul-lt-mul_right}
+use Rattle.std.proofs.Math.Nat.{mul_assoc, mul_comm, mul_left_comm, mul_right_comm, mul-add-div_right, add-mul, mul-le-mul_right, lt_of_mul-lt-mul_right}
 use Rattle.std.proofs.lemmas.Bool.{leb-true}
 use Rattle.image_means.specs.Division.{factor_of}
 use Rattle.image_means.specs.Means.{rounded_mean}
@@ -48,6 +48,16 @@ module _ (number count : ℕ) (some : 0 < count) where
         let next : (whole + 1) * one ≡ whole * one + one = omega (arith, add-mul whole 1 one) in
         let all : whole * one + (product - whole * one) ≡ product = omega (arith, not_less) in
         ap (λ n. n / one) (sym all) ∙ div-mul-add whole one (product - whole * one) (omega (arith, not_less, not_more, next))
+
+-- a quotient of a product is that of one factor, and what its rest adds
+pub in_two : (one part count : ℕ) → 0 < count → one / count * part + one % count * part / count ≡ one * part / count
+in_two one part count some =
+    sym (mul-add-div_right some (one / count * part) (one % count * part))
+    ∙ ap (λ n. n / count) (
+    ap (λ n. n + one % count * part) (mul_right_comm (one / count) part count)
+    ∙ sym (add-mul (one / count * count) (one % count) part)
+    ∙ ap (λ n. n * part) (div-add-mod' one count)
+    )
 
 -- a half of the count before the division rounds
 rounds : (sum count : ℕ) → 0 < count → (sum + count / 2) / count ≡ rounded_mean sum count

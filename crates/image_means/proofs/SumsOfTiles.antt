@@ -199,7 +199,7 @@ pub column_sum : {C : Type 0} (tally : C → ℕ) (sums : List C) (k : ℕ) (it 
 column_sum tally sums k it sum below is tells = ap (λ o. option_map_or tally o 0) (slice_get-get_or sums k it below ∙ ap Some (sym is)) ∙ sym tells
 
 -- the numbers of a part of the sums
-part_number : {C : Type 0} (tally : C → ℕ) (sums : List C) (at n k : ℕ) → k < n → number_in tally (take n (drop at sums)) k ≡ number_in tally sums (at + k)
+pub part_number : {C : Type 0} (tally : C → ℕ) (sums : List C) (at n k : ℕ) → k < n → number_in tally (take n (drop at sums)) k ≡ number_in tally sums (at + k)
 part_number tally sums at n k below = ap (λ p. option_map_or tally p 0) (slice_get-take n (drop at sums) k below ∙ slice_get-drop at sums k)
 
 -- the bound of a part of the sums

@@ -70,9 +70,13 @@ pub record AreSumsBefore (place : Place) (sums : List ℕ) (p more count : ℕ) 
 abbrev pub whole_count : Place → ℕ
 whole_count place = (2 * place.blur.across + 1) * place.lines
 
--- the factors of boxes of so many lines, by their columns
-pub record AreFactors (factors : List ℕ) (lines : ℕ) : Type 0 where
-  pub each : (c : ℕ) → 0 < c → c < length factors → slice_index_or factors c 0 ≡ factor_of (c * lines)
+-- the least number of columns that a box has, in a row of so many pixels
+abbrev pub least_columns : ℕ → ℕ → ℕ
+least_columns pixels across = min pixels (across + 1)
+
+-- the factors of boxes of so many lines, by their columns from some on
+pub record AreFactors (factors : List ℕ) (least lines : ℕ) : Type 0 where
+  pub each : (c : ℕ) → 0 < c → least ≤ c → c < length factors → slice_index_or factors c 0 ≡ factor_of (c * lines)
 
 -- the samples at so many places of these pixels are means of boxes, and all others are as they were
 pub record BlursSpan (place : Place) (count : ℕ) (sums : List ℕ) (from end : ℕ) (old new : List ℕ) : Type 0 where

@@ -1,22 +1,22 @@
 //! A blur: each pixel becomes the mean of the box around it. The sums of columns run down, and the
 //! sum of a box runs along the row. A mean is a product, since a division takes longer.
 
-ghost use Rattle.std.specs.Prelude.{◌≡◌, ◌<◌, ◌≤◌, ◌+◌, ◌-◌, ◌*◌, ◌/◌, ◌%◌, ◌^◌, ℕ, length, min};
+ghost use Rattle.std.specs.Prelude.{◌≡◌, ◌<◌, ◌≤◌, ◌+◌, ◌-◌, ◌*◌, ◌/◌, ◌%◌, ◌^◌, ℕ, length, min, slice_index_or};
 ghost use Rattle.image_model.specs.Layout.{Fits, SameOutside};
 ghost use Rattle.image_model.specs.Grid.{patch};
 ghost use Rattle.image_model.specs.Windows.{window_view, IsInside};
 ghost use Rattle.image_shape.specs.Window.{as_window};
 ghost use Rattle.image_shape.specs.Shape.{shape_height, shape_stride, shape_width, shaped, shaped_grid};
 ghost use Rattle.image_writes.specs.Written.{Becomes};
-ghost use Rattle.image_means.specs.Blur.{blurred, column_upto, pixels_upto, sum_at, AddsSamples, AddsRows, whole_count, AreFactors, AreSamples, AreSumsBefore, AreSumsFor, BlursRow, BlursSpan, CanBeBlurred, CanBlur, HaveRows, PutsSample};
+ghost use Rattle.image_means.specs.Blur.{blurred, column_upto, least_columns, pixels_upto, sum_at, AddsSamples, AddsRows, whole_count, AreFactors, AreSamples, AreSumsBefore, AreSumsFor, BlursRow, BlursSpan, CanBeBlurred, CanBlur, HaveRows, PutsSample};
 ghost use Rattle.image_means.specs.Division.{factor_of};
 ghost use Rattle.image_means.specs.Means.{sample_cells, sample_in, sample_number};
 
 use crate::division::{factor_of, mean_by, quotient_by};
 use crate::means::{SampleBytes, sample_from};
-use image_flips::exact_part;
 use image_ops::fill_cells;
 use image_shape::{Shape, Window};
+use image_writes::exact_part;
 use std::ops::Range;
 
 // Each sum of a column gets the sample of this row.
@@ -158,18 +158,19 @@ struct Blur {
 const FACTORS: usize = 512;
 
 // The factors of boxes of so many lines, by their columns, where they aren't those of as many lines.
-fn find_factors(factors: &mut [u64], known: usize, lines: usize)
-    requires known { 0 < known → AreFactors factors.old known }
+// No box has fewer columns than `least`: the factors below it are left out.
+fn find_factors(factors: &mut [u64], least: usize, known: usize, lines: usize)
+    requires known { 0 < known → AreFactors factors.old least known }
     requires short { length factors.old ≤ 512 }
     requires some { 0 < lines }
     requires few { lines < 2 ^ 17 }
     ensures as_many { length factors.new ≡ length factors.old }
-    ensures found { AreFactors factors.new lines }
+    ensures found { AreFactors factors.new least lines }
 {
     if lines == known {
         return;
     }
-    for columns in 1..factors.len() {
+    for columns in least.max(1)..factors.len() {
         factors[columns] = factor_of((columns * lines) as u64);
     }
 }
@@ -177,7 +178,8 @@ fn find_factors(factors: &mut [u64], known: usize, lines: usize)
 // The factor of a box of so many columns and lines.
 #[inline(always)]
 fn factor_for(factors: &[u64], columns: usize, lines: usize) -> u64
-    requires known { AreFactors factors.now lines }
+    requires known { columns < length factors.now
+        → slice_index_or factors.now columns 0 ≡ factor_of (columns * lines) }
     requires some { 0 < columns }
     requires some_lines { 0 < lines }
     requires room { columns * lines < 2 ^ 64 }
@@ -228,7 +230,8 @@ fn blur_pixel(
     totals: &mut [u64],
 )
     requires can { CanBlur place (length totals.old) sums.now (length row.old) }
-    requires factors { AreFactors factors.now place.lines }
+    requires factors { AreFactors factors.now
+        (least_columns (length sums.now / place.blur.per) place.blur.across) place.lines }
     requires pixel { p < length sums.now / place.blur.per }
     requires before { AreSumsBefore place sums.now p 0 (length totals.old) totals.old }
     ensures as_many { length totals.new ≡ length totals.old }
@@ -260,7 +263,8 @@ fn blur_span(
     totals: &mut [u64],
 )
     requires can { CanBlur place (length totals.old) sums.now (length row.old) }
-    requires factors { AreFactors factors.now place.lines }
+    requires factors { AreFactors factors.now
+        (least_columns (length sums.now / place.blur.per) place.blur.across) place.lines }
     requires order { pixels.start ≤ pixels.end }
     requires inside { pixels.end ≤ length sums.now / place.blur.per }
     requires before { AreSumsBefore place sums.now pixels.start 0 (length totals.old) totals.old }
@@ -375,7 +379,8 @@ fn blur_whole<const N: usize>(
 fn blur_place<const N: usize>(place: Place, sums: &[u32], row: &mut [u8], factors: &[u64])
     requires few { N ≤ 4 }
     requires can { CanBlur place N sums.now (length row.old) }
-    requires factors { AreFactors factors.now place.lines }
+    requires factors { AreFactors factors.now
+        (least_columns (length sums.now / place.blur.per) place.blur.across) place.lines }
     ensures means { BlursSpan place N sums.now 0 (length sums.now / place.blur.per) row.old row.new }
 {
     let Blur { per, across, .. } = place.blur;
@@ -409,7 +414,8 @@ fn blur_places<const N: usize>(
     requires whole { blur.per ≡ blur.per / N * N }
     requires across { blur.across < 2 ^ 15 }
     requires sums { AreSumsFor blur.bytes blur.per lines sums.now (length row.old) }
-    requires factors { AreFactors factors.now lines }
+    requires factors { AreFactors factors.now
+        (least_columns (length sums.now / blur.per) blur.across) lines }
     ensures means { BlursRow blur.bytes sums.now blur.per blur.across lines row.old row.new }
 {
     for group in 0..blur.per / N {
@@ -422,7 +428,8 @@ fn blur_places<const N: usize>(
 fn blur_row(blur: Blur, sums: &[u32], row: &mut [u8], lines: usize, factors: &[u64])
     requires across { blur.across < 2 ^ 15 }
     requires sums { AreSumsFor blur.bytes blur.per lines sums.now (length row.old) }
-    requires factors { AreFactors factors.now lines }
+    requires factors { AreFactors factors.now
+        (least_columns (length sums.now / blur.per) blur.across) lines }
     ensures means { BlursRow blur.bytes sums.now blur.per blur.across lines row.old row.new }
 {
     let bytes = SampleBytes::One;
@@ -472,6 +479,7 @@ fn blur_from(blur: Blur, source: &[u8], cells: &mut [u8], shape: Shape, sums: &m
         (blurred blur.bytes (blur.per * sample_cells blur.bytes) blur.across blur.down
         (shaped_grid source.now shape)) }
 {
+    let least = (sums.len() / blur.per).min(blur.across + 1);
     fill_cells(sums, 0);
     let mut table = [0u64; FACTORS];
     let factors = &mut table[..FACTORS.min(2 * blur.across + 2)];
@@ -487,7 +495,7 @@ fn blur_from(blur: Blur, source: &[u8], cells: &mut [u8], shape: Shape, sums: &m
         first = next_first;
         end = next_end;
         let lines = end - first;
-        find_factors(factors, known, lines);
+        find_factors(factors, least, known, lines);
         known = lines;
         let row = shape.row(cells.len(), y).range();
         blur_row(blur, sums, &mut cells[row], lines, factors);

@@ -10,13 +10,23 @@ const GREATEST: u64 = 46340;
 // The shift is by 47 bits: a sample has 16, and a product has 64.
 const ONE: u64 = 1 << 47;
 
+// The quotient of `ONE`, by two divisions of 32 bits: they take less time than one of 64.
+fn one_by(count: u32) -> u64
+    requires some { 0 < count }
+    requires few { count ≤ 2 ^ 16 }
+    ensures { result ≡ 2 ^ 47 / count }
+{
+    let (whole, rest) = ((1u32 << 31) / count, (1u32 << 31) % count);
+    u64::from(whole) * 65536 + u64::from(rest * 65536 / count)
+}
+
 /// The factor of `mean_by` for so many samples, or 0 where they are too many for one.
 pub(crate) fn factor_of(count: u64) -> u64
     requires { 0 < count }
     ensures { result ≡ factor_of count }
 {
     if count <= GREATEST {
-        ONE / count + 1
+        one_by(count as u32) + 1
     } else {
         0
     }

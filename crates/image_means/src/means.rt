@@ -13,9 +13,9 @@ ghost use Rattle.image_writes.specs.Written.{Becomes};
 
 use crate::lines::{Lines, Tile};
 use crate::tile_sums::{ROOM, put_by_sums};
-use image_flips::exact_part;
 use image_ops::{mosaic_cells, next_line};
 use image_shape::{Shape, Stretch, Window, tiles_along};
+use image_writes::exact_part;
 
 /// A cell that is a number of at most 16 bits, of which a mean can be taken.
 pub trait Sample: Copy {

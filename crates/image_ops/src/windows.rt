@@ -13,8 +13,8 @@ use crate::copy::copy_pixels;
 use crate::fill::fill_pixels;
 use crate::mosaic::mosaic_cells;
 use crate::repeating::repeat_pixels;
-use image_flips::exact_part;
 use image_shape::{Shape, Window};
+use image_writes::exact_part;
 
 // The calls below are not inlined. The tests of a call for C hold so many numbers that the
 // loop over the rows would have no register left: at rows of 64 bytes it took a third longer.

@@ -7,7 +7,7 @@ use Rattle.std.proofs.lemmas.List.Folds.{list_all_more}
 use Rattle.image_model.specs.Grid.{Grid, grid_of}
 use Rattle.image_model.specs.Layout.{SameOutside}
 use Rattle.image_model.proofs.Places.{outside_trans}
-use Rattle.imgref.specs.Shape.{shaped, shape_width, shape_height}
+use Rattle.image_shape.specs.Shape.{shaped, shape_width, shape_height}
 use Rattle.image_shape.specs.declared.shape.Shape.{Shape}
 use Rattle.image_planes.specs.Changes.{are_inside, changed, names, stepped}
 use Rattle.image_planes.specs.Scratch.{have_room}

@@ -8,7 +8,7 @@ use Rattle.image_model.proofs.Grids.{at_place, is_patch, covers_decides}
 use Rattle.image_model.specs.Windows.{window_view}
 use Rattle.image_writes.specs.Mirrored.{mirrored_by}
 use Rattle.image_shape.specs.declared.window.Window.{Window}
-use Rattle.imgref.specs.Window.{as_window}
+use Rattle.image_shape.specs.Window.{as_window}
 
 -- where the byte comes from that a place shows, of so many bytes in a row
 abbrev pub mirror : ℕ → ℕ → ℕ → ℕ

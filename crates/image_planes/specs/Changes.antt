@@ -6,7 +6,7 @@ use Rattle.image_model.specs.Flips.{flipped}
 use Rattle.image_model.specs.Rows.{grid_pixels}
 use Rattle.image_model.specs.Windows.{IsInside, is_inside, window, window_view}
 use Rattle.image_model.specs.Windows as model
-use Rattle.imgref.specs.Window.{as_window}
+use Rattle.image_shape.specs.Window.{as_window}
 use Rattle.image_means.specs.Blur.{blurred}
 use Rattle.image_means.specs.Means.{sample_mosaic}
 use Rattle.image_means.specs.declared.means.SampleBytes.{SampleBytes}

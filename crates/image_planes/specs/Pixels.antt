@@ -1,7 +1,7 @@
 -- Images of bytes in which a pixel has several of them, next to one another in a row.
 use Rattle.std.specs.Prelude.{ℕ, List, ◌≡◌, ◌*◌, ◌/◌, ◌<◌}
 use Rattle.image_model.specs.Layout.{Fits}
-use Rattle.imgref.specs.Shape.{shaped, shape_width}
+use Rattle.image_shape.specs.Shape.{shaped, shape_width}
 use Rattle.image_shape.specs.declared.shape.Shape.{Shape}
 
 -- the bytes fit the shape, whose rows have whole pixels of 1 to 8 bytes

@@ -3,7 +3,7 @@ use Rattle.std.specs.Prelude.{ℕ, ◌+◌, ◌*◌, ◌^◌, ◌&&◌, ◌==◌
 use Rattle.image_model.specs.Grid.{Grid, patch}
 use Rattle.image_model.specs.Rows.{grid_pixels}
 use Rattle.image_model.specs.Windows.{is_inside, window, window_view}
-use Rattle.imgref.specs.Window.{as_window}
+use Rattle.image_shape.specs.Window.{as_window}
 use Rattle.image_ops.specs.Repeated.{repeated}
 use Rattle.image_planes.specs.Changes.{in_bytes, byte_grid, is_plane}
 use Rattle.image_planes.specs.declared.target.Resize.{Resize}

@@ -1,7 +1,7 @@
 -- The room that blurs need besides the planes.
 use Rattle.std.specs.Prelude.{◌≡◌, ◌≤◌, ◌+◌, ◌*◌, ◌/◌, ◌&&◌, ℕ, length, Bool, true, false, nat_le, if◌then◌else◌, List, [], ◌∷◌, vec_capacity, max}
 use Rattle.std.specs.List.{list_all, list_any}
-use Rattle.imgref.specs.Shape.{shape_width, shape_height}
+use Rattle.image_shape.specs.Shape.{shape_width, shape_height}
 use Rattle.image_shape.specs.declared.shape.Shape.{Shape}
 use Rattle.image_planes.specs.Changes.{Job, job_len, are_inside}
 use Rattle.image_planes.specs.Pixels.{HavePixels}

@@ -4,8 +4,8 @@
 ghost use Rattle.std.specs.Prelude.{◌≡◌, ◌<◌, ◌≤◌, ◌/◌, ◌*◌, ◌%◌, ◌^◌, length, IsTrue};
 ghost use Rattle.image_model.specs.Grid.{grid_of, patch};
 ghost use Rattle.image_model.specs.Windows.{IsInside, window_view};
-ghost use Rattle.imgref.specs.Shape.{shaped, shape_width, shape_height};
-ghost use Rattle.imgref.specs.Window.{as_window};
+ghost use Rattle.image_shape.specs.Shape.{shaped, shape_width, shape_height};
+ghost use Rattle.image_shape.specs.Window.{as_window};
 ghost use Rattle.image_means.specs.Blur.{blurred};
 ghost use Rattle.image_means.specs.Means.{sample_cells};
 ghost use Rattle.image_writes.specs.Written.{Becomes};
@@ -17,7 +17,7 @@ use image_flips::{flip_rows, flip_window_columns};
 use image_means::{SampleBytes, blur_samples, mean_samples};
 use image_moves::move_pixels;
 use image_ops::{mosaic_window_by, repeat_window};
-use imgref::{Shape, Window};
+use image_shape::{Shape, Window};
 
 /// The bytes of a pixel. Where a pixel has fewer, the others are ignored.
 pub type Value = [u8; 8];

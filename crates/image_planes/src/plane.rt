@@ -2,7 +2,7 @@
 
 ghost use Rattle.std.specs.Prelude.{◌≡◌, ◌<◌, ◌≤◌, ◌*◌, ◌/◌, length, IfOk, IsTrue};
 ghost use Rattle.std.specs.Option.{option_map};
-ghost use Rattle.imgref.specs.Shape.{shape_width, shape_height, shape_stride};
+ghost use Rattle.image_shape.specs.Shape.{shape_width, shape_height, shape_stride};
 ghost use Rattle.image_planes.specs.Changes.{is_change_of, is_plane, are_inside, job_for, changed_plane};
 ghost use Rattle.image_planes.specs.Scratch.{copy_len, sums_len, have_blur};
 ghost use Rattle.image_planes.specs.Spans.{are_spans, are_groups};
@@ -10,7 +10,7 @@ ghost use Rattle.image_planes.specs.Spans.{are_spans, are_groups};
 use crate::change::{Change, Step, Value, is_blur};
 use crate::spans::{BLOCK, GROUP, Span, do_groups, spans_of};
 use crate::steps::all_inside;
-use imgref::{Shape, Window};
+use image_shape::{Shape, Window};
 use std::alloc::{AllocError, Global};
 
 /// Whether pixels of so many bytes make a plane of this size.
@@ -149,7 +149,7 @@ impl Plane {
 }
 
 /// Whether a change is valid for so many pixels.
-pub(crate) fn is_inside(width: usize, height: usize, change: Change<Value>) -> bool
+pub fn is_inside(width: usize, height: usize, change: Change<Value>) -> bool
     ensures { result ≡ is_change_of width height change }
 {
     match change {

@@ -2,7 +2,7 @@
 
 ghost use Rattle.std.specs.Prelude.{◌≡◌, ◌<◌, length, IfOk, IsTrue};
 ghost use Rattle.image_model.specs.Grid.{grid_of};
-ghost use Rattle.imgref.specs.Shape.{shaped};
+ghost use Rattle.image_shape.specs.Shape.{shaped};
 ghost use Rattle.image_writes.specs.Written.{Becomes};
 ghost use Rattle.image_planes.specs.Changes.{stepped};
 ghost use Rattle.image_planes.specs.Scratch.{AreFor};
@@ -10,7 +10,7 @@ ghost use Rattle.image_planes.specs.Spans.{has, has_all, are_spans_by, are_spans
 
 use crate::change::{Step, Value};
 use crate::steps::do_steps;
-use imgref::Shape;
+use image_shape::Shape;
 use std::alloc::{AllocError, Global};
 
 /// The number of steps of a block. Only the last block may have fewer.

@@ -2,14 +2,14 @@
 
 ghost use Rattle.std.specs.Prelude.{◌≡◌, length};
 ghost use Rattle.image_model.specs.Grid.{grid_of};
-ghost use Rattle.imgref.specs.Shape.{shaped};
+ghost use Rattle.image_shape.specs.Shape.{shaped};
 ghost use Rattle.image_writes.specs.Written.{Becomes};
 ghost use Rattle.image_planes.specs.Changes.{are_inside, stepped};
 ghost use Rattle.image_planes.specs.Scratch.{AreFor};
 
 use crate::change::{Step, Value, change_cells};
 use crate::plane::is_inside;
-use imgref::Shape;
+use image_shape::Shape;
 
 /// Whether all steps are valid for so many pixels.
 pub(crate) fn all_inside(width: usize, height: usize, steps: &[Step<Value>]) -> bool

@@ -8,9 +8,8 @@ ghost use Rattle.image_ops.specs.Repeated.{repeated};
 ghost use Rattle.image_writes.specs.Written.{Becomes};
 ghost use Rattle.image_model.specs.Rows.{grid_pixels};
 ghost use Rattle.image_model.specs.Windows.{IsInside, is_inside, window_view};
-ghost use Rattle.imgref.specs.Image.{ref_layout, width_of, height_of};
-ghost use Rattle.imgref.specs.Shape.{shaped, shape_width, shape_height, shape_stride};
-ghost use Rattle.imgref.specs.Window.{as_window};
+ghost use Rattle.image_shape.specs.Shape.{shaped, shaped_grid, shape_width, shape_height, shape_stride};
+ghost use Rattle.image_shape.specs.Window.{as_window};
 ghost use Rattle.image_planes.specs.Surrounds.{bordered};
 ghost use Rattle.image_planes.specs.Changes.{byte_grid, is_plane};
 ghost use Rattle.image_turns.specs.Oriented.{oriented};
@@ -18,9 +17,10 @@ ghost use Rattle.image_planes.specs.Resized.{orientation_of, is_resize_of, new_w
 
 use crate::change::{Value, in_bytes};
 use crate::plane::is_plane;
-use image_ops::repeat_window;
+use image_ops::{copy_pixels, copy_window, repeat_window};
+use image_shape::{Shape, Window};
 use image_turns::{Orientation, orient_pixels};
-use imgref::{ImgRef, ImgRefMut, Shape, Window};
+use image_writes::padded_part;
 
 /// A turn by a quarter.
 #[derive(Clone, Copy, PartialEq, Eq)]
@@ -65,50 +65,21 @@ pub struct Target {
     ghost inside: { IsTrue (is_resize_of size width height resize) },
 }
 
-// The pixels that these cells have in this shape become those of another image.
-fn copy_cells(cells: &mut [u8], shape: Shape, source: ImgRef<'_, u8>)
-    requires fits { Fits (shaped cells.old shape) }
-    requires source_fits { Fits (ref_layout source) }
-    requires same_width { width_of source ≡ shape_width shape }
-    requires same_height { height_of source ≡ shape_height shape }
-    ensures { Becomes shape cells.old cells.new (grid_of (ref_layout source.entry)) }
-{
-    let mut image = ImgRefMut::from_parts(cells, shape);
-    image.copy_from(source);
-}
-
-// The window becomes another image.
-fn put_image(cells: &mut [u8], shape: Shape, window: Window, source: ImgRef<'_, u8>)
-    requires fits { Fits (shaped cells.old shape) }
-    requires inside { IsInside (shape_width shape) (shape_height shape) (as_window window) }
-    requires source_fits { Fits (ref_layout source) }
-    requires same_width { width_of source ≡ window.width }
-    requires same_height { height_of source ≡ window.height }
-    ensures { Becomes shape cells.old cells.new (patch (grid_of (shaped cells.old shape))
-        window.left window.top (grid_of (ref_layout source.entry))) }
-{
-    let mut image = ImgRefMut::from_parts(cells, shape);
-    image.copy_window(window.left, window.top, source);
-}
-
-// The cells become the pixels of a window of the image.
+// The cells become the pixels of a window of the source.
 #[tactic(auto, using(crate::proofs::Parts::plane_pixels))]
-fn crop_image(source: ImgRef<'_, u8>, window: Window, target: &mut [u8])
-    requires fits { Fits (ref_layout source) }
+fn crop_plane(source: &[u8], shape: Shape, window: Window, target: &mut [u8])
+    requires fits { Fits (shaped source.now shape) }
     requires wide { 0 < window.width }
     requires width_bound { window.width < 2 ^ 32 }
     requires height_bound { window.height < 2 ^ 32 }
-    requires inside { IsInside (width_of source) (height_of source) (as_window window) }
+    requires inside { IsInside (shape_width shape) (shape_height shape) (as_window window) }
     requires room { length target.old ≡ window.width * window.height }
     ensures { target.new
-        ≡ grid_pixels (window_view (grid_of (ref_layout source.entry)) (as_window window)) }
+        ≡ grid_pixels (window_view (shaped_grid source.now shape) (as_window window)) }
 {
-    let part = source.sub_image(window.left, window.top, window.width, window.height);
-    copy_cells(
-        target,
-        Shape::new(window.width, window.height, window.width),
-        part,
-    );
+    let (part, part_shape) = padded_part(source, shape, window);
+    let packed = Shape::new(window.width, window.height, window.width);
+    copy_pixels(target, packed, part, part_shape);
 }
 
 // Every row of the windows above, below, left and right of this one becomes the pattern, again and
@@ -133,20 +104,19 @@ fn fill_border(cells: &mut [u8], shape: Shape, place: Window, pattern: &[u8])
     repeat_window(cells, shape, after, pattern);
 }
 
-// The cells become those of a grid of this size whose rows repeat the pattern, with the image at a
-// corner. The pattern goes on after the image as if it were there.
+// The cells become those of a grid of this size whose rows repeat the pattern, with the plane at a
+// corner. The pattern goes on after the plane as if it were there.
 #[tactic(auto, using(crate::proofs::Parts::plane_pixels, crate::proofs::Borders::around_image))]
-fn pad_image(
-    source: ImgRef<'_, u8>,
+fn pad_plane(
+    source: &[u8],
     place: Window,
     width: usize,
     height: usize,
     pattern: &[u8],
     target: &mut [u8],
 )
-    requires fits { Fits (ref_layout source) }
-    requires same_width { width_of source ≡ place.width }
-    requires same_height { height_of source ≡ place.height }
+    requires source_whole { length source.now ≡ place.width * place.height }
+    requires source_wide { 0 < place.width }
     requires wide { 0 < width }
     requires width_bound { width < 2 ^ 32 }
     requires height_bound { height < 2 ^ 32 }
@@ -155,11 +125,12 @@ fn pad_image(
     requires whole { (place.left + place.width) % length pattern.now ≡ 0 }
     requires room { length target.old ≡ width * height }
     ensures { target.new ≡ grid_pixels (patch (repeated width height pattern.now)
-        place.left place.top (grid_of (ref_layout source.entry))) }
+        place.left place.top (byte_grid place.width place.height source.now)) }
 {
     let shape = Shape::new(width, height, width);
+    let source_shape = Shape::new(place.width, place.height, place.width);
     fill_border(target, shape, place, pattern);
-    put_image(target, shape, place, source);
+    copy_window(target, shape, place, source, source_shape);
 }
 
 fn orientation_of(quarter: Quarter) -> Orientation
@@ -330,11 +301,10 @@ impl Target {
         requires room { length target.old ≡ target_len (resizing_of self.now) }
         ensures { target.new ≡ resized_plane (resizing_of self.now) source.now }
     {
-        let whole = ImgRef::new(source, self.size * self.width, self.height);
         match self.resize {
             Resize::Crop(window) => {
-                let part = in_bytes(self.source_shape(), self.size, window);
-                crop_image(whole, part, target);
+                let shape = self.source_shape();
+                crop_plane(source, shape, in_bytes(shape, self.size, window), target);
             }
             Resize::Pad {
                 left,
@@ -346,7 +316,7 @@ impl Target {
                 let place = Window::new(left, top, self.width, self.height);
                 let place = in_bytes(self.shape(), self.size, place);
                 let width = self.size * width;
-                pad_image(whole, place, width, height, &value[..self.size], target);
+                pad_plane(source, place, width, height, &value[..self.size], target);
             }
             Resize::Turn { quarter, .. } => {
                 turn_plane(source, self.size, self.width, self.height, quarter, target);

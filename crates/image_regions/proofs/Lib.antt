@@ -1,5 +1,5 @@
 pub mod ByTable
-mod LevelTables
+pub mod LevelTables
 mod LookedAt
 mod Pending
 mod Runs

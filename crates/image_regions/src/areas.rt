@@ -1,7 +1,8 @@
 //! Summed areas.
 
-ghost use Rattle.std.specs.Prelude.{◌≡◌, ◌↔◌, ◌<◌, ◌+◌, ◌-◌, ◌*◌, ◌^◌, ◌==◌, if◌then◌else◌, IfOk, IsTrue};
-ghost use Rattle.imgref.specs.Words.{AreBelow, Fits, SameOutside, area_at, area_sum, grid_of, height_of, ref_grid, ref_layout, shape_height, shape_width, shaped, shown, table, vec_grid, vec_layout, width_of};
+ghost use Rattle.std.specs.Prelude.{◌≡◌, ◌↔◌, ◌<◌, ◌+◌, ◌-◌, ◌*◌, ◌^◌, ◌==◌, if◌then◌else◌, IfOk, IsOk, IsTrue};
+ghost use Rattle.image_model.specs.Compaction.{least_stride};
+ghost use Rattle.imgref.specs.Words.{AreBelow, Fits, SameOutside, area_at, area_sum, grid_of, height_of, ref_grid, ref_layout, shape_height, shape_width, shaped, shown, stride_of, table, vec_grid, vec_layout, width_of};
 
 use crate::pixels::{get, put};
 use imgref::{ImgRef, ImgVec, Shape, bound_u8};
@@ -79,7 +80,8 @@ pub fn integral_into(image: ImgRef<'_, u8>, cells: &mut [u64], shape: Shape)
     sum_areas(image, cells, shape);
 }
 
-/// The summed areas of an image in an image of its own, as `integral_into` writes them.
+/// The summed areas of an image in an image of its own, as `integral_into` writes them. There is no
+/// padding: the stride is the width, or 1 for width 0.
 ///
 /// # Requires
 ///
@@ -87,13 +89,15 @@ pub fn integral_into(image: ImgRef<'_, u8>, cells: &mut [u64], shape: Shape)
 ///
 /// # Errors
 ///
-/// Out of memory.
+/// Out of memory. This never happens where there is no pixel.
 pub fn integral(alloc: Global, image: ImgRef<'_, u8>) -> Result<ImgVec<u64>, AllocError>
     requires fits { Fits (ref_layout image) }
     requires small { width_of image * height_of image < 2 ^ 56 }
     ensures grid { IfOk result (λ i. vec_grid i
         ≡ table (width_of image.entry) (height_of image.entry) (area_at (ref_grid image.entry))) }
+    ensures stride { IfOk result (λ i. stride_of i ≡ least_stride (width_of image.entry)) }
     ensures fits { IfOk result (λ i. Fits (vec_layout i)) }
+    ensures succeeds { width_of image.entry * height_of image.entry ≡ 0 → IsOk result }
 {
     let areas = ImgVec::from_places(alloc, image.width(), image.height(), |_x, _y| 0u64)?;
     let (mut cells, shape) = areas.into_parts();

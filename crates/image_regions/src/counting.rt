@@ -25,8 +25,16 @@ pub fn histogram(image: ImgRef<'_, u8>) -> [u64; 256]
 
 /// The sums of a histogram: item `v` of the result is how many pixels are at most `v`. They need
 /// more than 64 bits where the counts are any numbers.
-#[tactic(auto, using(crate::proofs::LevelTables::level_tables))]
 pub fn cumulative(counts: &[u64; 256]) -> [u128; 256]
+    ensures sums { (v : ℕ) → v < 256 → slice_index result v ≡ sum (take (v + 1) counts.now) }
+    ensures small { sum counts.now < 2 ^ 72 }
+{
+    sums_up_to(counts)
+}
+
+/// The same, with the last of them: no other is greater.
+#[tactic(auto, using(crate::proofs::LevelTables::level_tables))]
+pub(crate) fn sums_up_to(counts: &[u64; 256]) -> [u128; 256]
     ensures sums { (v : ℕ) → v < 256 → slice_index result v ≡ sum (take (v + 1) counts.now) }
     ensures whole { slice_index result 255 ≡ sum counts.now }
     ensures part { (v : ℕ) → v < 256 → slice_index result v ≤ slice_index result 255 }

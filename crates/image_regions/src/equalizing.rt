@@ -4,7 +4,7 @@ ghost use Rattle.std.specs.Prelude.{◌≡◌, ◌<◌, ◌≤◌, ◌*◌, ◌/
 ghost use Rattle.imgref.specs.Words.{Fits, OnlyCellsChange, SameOutside, grid_by, layout_by};
 ghost use Rattle.image_regions.specs.Levels.{equalized, level};
 
-use crate::counting::{cumulative, histogram};
+use crate::counting::{histogram, sums_up_to};
 use imgref::{AsMutSlice, Img};
 
 // Which part of 255 this is, by one that is no greater. It needs no division, which would be a call for 128 bits.
@@ -31,7 +31,7 @@ fn share(from: u8, part: u128, total: u128) -> u8
 fn levels(counts: &[u64; 256]) -> [u8; 256]
     ensures { (v : ℕ) → v < 256 → slice_index result v ≡ level counts.now v }
 {
-    let sums = cumulative(counts);
+    let sums = sums_up_to(counts);
     let mut table = [0u8; 256];
     let mut level = 0;
     for v in 0..256usize {

@@ -1,8 +1,9 @@
 //! Labels of connected regions.
 
-ghost use Rattle.std.specs.Prelude.{◌≡◌, ◌≢◌, ◌<◌, ◌≤◌, ◌+◌, ◌*◌, ℕ, List, Some, true, false, IfOk, length};
+ghost use Rattle.std.specs.Prelude.{◌≡◌, ◌≢◌, ◌<◌, ◌≤◌, ◌+◌, ◌*◌, ℕ, List, Some, true, false, IfOk, IsOk, length};
 ghost use Rattle.image_model.specs.Regions.{HasRegion, IsLabelStep, Labelled};
-ghost use Rattle.imgref.specs.Words.{AreRegions, Fits, IsConnected, SameOutside, TellsApart, grid_of, height_of, ref_grid, ref_layout, shape_height, shape_width, shaped, vec_grid, vec_layout, width_of};
+ghost use Rattle.image_model.specs.Compaction.{least_stride};
+ghost use Rattle.imgref.specs.Words.{AreRegions, Fits, IsConnected, SameOutside, TellsApart, grid_of, height_of, ref_grid, ref_layout, shape_height, shape_width, shaped, stride_of, vec_grid, vec_layout, width_of};
 ghost use Rattle.image_regions.specs.Runs.{AddsRuns, CanBeLabelled, CanSpread, EndsAt, FillsRun, HasLabels, IsSpreading, ShowsAlong, SpreadsOn, label_grid, no_run, open_places};
 ghost use Rattle.image_regions.specs.declared.labels.Run.{Run};
 
@@ -322,8 +323,9 @@ fn label_all<T: Copy + PartialEq>(
 /// The regions of an image, in cells of the caller's. Each place of `labels` gets a label, and two
 /// places have the same label exactly if they are connected. A path then leads from one to the
 /// other over sides (4-connected), and over places that show the same pixel. The labels are 1, 2
-/// and so on up to the number of regions, which is returned. No pixel value is background. `room`
-/// has a number for each place: what it has then means nothing.
+/// and so on up to the number of regions, which is returned. Which region has which label isn't
+/// promised. No pixel value is background. `room` has a number for each place: what it has then
+/// means nothing.
 ///
 /// # Requires
 ///
@@ -350,7 +352,7 @@ pub fn components_into<T: Copy + PartialEq>(
 }
 
 /// The regions of an image, as `components_into` labels them. The labels and the room are
-/// allocated.
+/// allocated. The labels have no padding: their stride is the width, or 1 for width 0.
 ///
 /// # Requires
 ///
@@ -359,7 +361,7 @@ pub fn components_into<T: Copy + PartialEq>(
 ///
 /// # Errors
 ///
-/// Out of memory.
+/// Out of memory. This never happens where there is no pixel.
 pub fn components<T: Copy + PartialEq>(
     alloc: Global,
     image: ImgRef<'_, T>,
@@ -368,9 +370,13 @@ pub fn components<T: Copy + PartialEq>(
     requires tells { TellsApart T.eq }
     ensures regions { IfOk result
         (λ r. AreRegions (ref_grid image.entry) (vec_grid r.labels) r.count) }
+    ensures stride { IfOk result
+        (λ r. stride_of r.labels ≡ least_stride (width_of image.entry)) }
     ensures fits { IfOk result (λ r. Fits (vec_layout r.labels)) }
+    ensures succeeds { width_of image.entry * height_of image.entry ≡ 0 → IsOk result }
 {
-    let mut room = vec![in alloc; 0usize; image.shape().pixel_count()]?;
+    let mut room = Vec::new(alloc);
+    room.resize(image.shape().pixel_count(), 0usize)?;
     let labels = ImgVec::from_places(alloc, image.width(), image.height(), |_x, _y| 0u64)?;
     let (mut cells, shape) = labels.into_parts();
     let count = label_all(image, cells.as_mut_slice(), shape, room.as_mut_slice());

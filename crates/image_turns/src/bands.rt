@@ -13,8 +13,8 @@ ghost use Rattle.image_writes.specs.Written.{Becomes};
 
 use crate::blocks::read_rows;
 use crate::turning::{CrossedShape, blocks_pay, first_column, quarter_blocks, quarter_rows};
-use image_flips::{exact_part, padded_part};
 use image_shape::{Shape, Window};
+use image_writes::{exact_part, padded_part};
 use std::mem::size_of_val;
 
 // Every pixel of `shape` in `cells` becomes the pixel of the source whose columns are rows, 16 rows at

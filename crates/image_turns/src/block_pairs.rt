@@ -19,8 +19,8 @@ ghost use Rattle.image_writes.specs.Written.{Becomes};
 use crate::blocks::read_rows;
 use crate::pixel_turning::{Orientation, Origin, orient_rows};
 use crate::turning::{CrossedShape, Crossing, quarter_rows};
-use image_flips::{exact_part, padded_part};
 use image_shape::{Shape, Window};
+use image_writes::{exact_part, padded_part};
 
 // The block becomes the pixels of the window, in the shape that is returned. Its rows have room for
 // `WIDTH` cells, and there are up to `HEIGHT` of them.

@@ -15,8 +15,9 @@ ghost use Rattle.image_writes.specs.Written.{Becomes};
 
 use crate::near::rows_near;
 use crate::turning::{Turn, is_near, transpose_pixels, turn_pixels};
-use image_flips::{copy_triples_back, exact_part, triples_pay};
+use image_flips::{copy_triples_back, triples_pay};
 use image_shape::{Shape, Window};
+use image_writes::exact_part;
 use row_parts::{read_part, write_part};
 use std::mem::size_of_val;
 

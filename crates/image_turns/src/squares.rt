@@ -14,8 +14,9 @@ use crate::block_pairs::cross_pairs;
 use crate::blocks::{block_shape, read_rows, transpose_block};
 use crate::near::rows_near;
 use crate::turning::Turn;
-use image_flips::{exact_part, flip_columns, flip_rows, padded_part, swap_cells};
+use image_flips::{flip_columns, flip_rows, swap_cells};
 use image_shape::{Shape, Window};
+use image_writes::{exact_part, padded_part};
 use std::mem::{size_of, size_of_val};
 
 // How many bytes of an image are crossed at once where its rows don't clash: these are near anyway.

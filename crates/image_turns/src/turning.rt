@@ -16,9 +16,10 @@ ghost use Rattle.image_writes.specs.Written.{Becomes, HaveSameSize};
 use crate::bands::{copied_columns, quarter_copied};
 use crate::blocks::{block_shape, read_rows, transpose_block};
 use crate::near::rows_near;
-use image_flips::{copy_back, exact_part, padded_part};
+use image_flips::copy_back;
 use image_rows::row;
 use image_shape::{Shape, Window};
+use image_writes::{exact_part, padded_part};
 use std::mem::{size_of, size_of_val};
 
 // The most columns that are written at a time. A column of the target has the cells of a row of the

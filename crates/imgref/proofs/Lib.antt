@@ -2,6 +2,7 @@ pub mod AsMany
 pub mod SameImages
 pub mod WindowShapes
 pub mod FedRows
+pub mod Ignored
 pub mod ImageValues
 pub mod Writes
 pub mod Made

@@ -15,5 +15,6 @@ pub mod Eqhash
 pub mod Image
 pub mod Index
 pub mod Lists
+pub mod Sources
 pub mod Written
 pub mod Words

@@ -5,6 +5,7 @@ ghost use Rattle.std.specs.Prelude.{◌≡◌, ◌*◌, ◌^◌, ◌<◌, IsOk, 
 ghost use Rattle.image_model.specs.Layout.{Fits, SameOutside};
 ghost use Rattle.image_model.specs.ByPlace.{TakesEachPlace, HasPlaceAnswers, IsMappedByPlace, TakesBothPixels, HasZipAnswers, IsZipped, TakesPlacesOf, HasResults, IsFromPlaces};
 ghost use Rattle.image_model.specs.Compaction.{least_stride};
+ghost use Rattle.imgref.specs.Sources.{HasAnswersFrom, IsMappedFrom, TakesPixelsOf};
 ghost use Rattle.imgref.specs.Image.{width_of, height_of, layout_by, stride_of, OnlyCellsChange, ref_layout, vec_layout};
 
 use crate::containers::{AsMutSlice, AsSlice};
@@ -68,6 +69,67 @@ impl<C: AsMutSlice> Img<C> {
     {
         let (cells, shape) = self.all_parts_mut();
         zip_pixels(cells, shape, other.buf, other.shape(), &f);
+    }
+
+    /// Every pixel becomes the result of `f` for its column and its row, whatever it was. It goes row
+    /// by row and from left to right, and the padding stays. (In the Rust crate this is the caller's
+    /// loop over `rows_mut`.)
+    ///
+    /// # Requires
+    ///
+    /// The image fits (`is_valid`), and `f` can be called with each place of its size.
+    pub fn fill_places<'a, F: Fn(usize, usize) -> C::Item>(&'a mut self, f: F)
+    where
+        C::Item: Copy + 'a,
+        requires fits { Fits (layout_by C.cells self.old) }
+        requires callable { TakesPlacesOf (F.pre f) (width_of self.old) (height_of self.old) }
+        ensures answers { HasResults (F.post f) (width_of self.old) (height_of self.old)
+            (layout_by C.cells self.new) }
+        ensures grid { IsFromPlaces (F.post f) (width_of self.old) (height_of self.old)
+            (layout_by C.cells self.new) }
+        ensures outside { SameOutside (layout_by C.cells self.old) (layout_by C.cells self.new) }
+        ensures fits { Fits (layout_by C.cells self.new) }
+        ensures container { OnlyCellsChange C.cells C.with_cells self.old self.new }
+    {
+        self.map_places(
+            |x: usize, y: usize, _old: C::Item| -> C::Item
+                requires { F.pre f x y }
+                ensures { F.post f x y result }
+            { f(x, y) },
+        );
+    }
+
+    /// Every pixel becomes the result of `f` for the pixel of `source` at its place, whatever it was.
+    /// It goes row by row and from left to right, and the padding stays. The two strides may differ.
+    /// (In the Rust crate this is the caller's loop over two iterators.)
+    ///
+    /// # Requires
+    ///
+    /// Both images fit (`is_valid`) and have the same size (`width`, `height`), and `f` can be called
+    /// with each pixel of `source`.
+    pub fn map_from<'a, U: Copy, F: Fn(U) -> C::Item>(&'a mut self, source: ImgRef<'_, U>, f: F)
+    where
+        C::Item: Copy + 'a,
+        requires fits { Fits (layout_by C.cells self.old) }
+        requires source_fits { Fits (ref_layout source) }
+        requires same_width { width_of source ≡ width_of self.old }
+        requires same_height { height_of source ≡ height_of self.old }
+        requires callable { TakesPixelsOf (F.pre f) (ref_layout source) }
+        ensures answers { HasAnswersFrom (F.post f) (ref_layout source.entry)
+            (layout_by C.cells self.new) }
+        ensures grid { IsMappedFrom (F.post f) (ref_layout source.entry)
+            (layout_by C.cells self.new) }
+        ensures outside { SameOutside (layout_by C.cells self.old) (layout_by C.cells self.new) }
+        ensures fits { Fits (layout_by C.cells self.new) }
+        ensures container { OnlyCellsChange C.cells C.with_cells self.old self.new }
+    {
+        self.zip_pixels(
+            source,
+            |_old: C::Item, pixel: U| -> C::Item
+                requires { F.pre f pixel }
+                ensures { F.post f pixel result }
+            { f(pixel) },
+        );
     }
 }
 

@@ -12,8 +12,8 @@ ghost use Rattle.imgref.specs.Image.{buf_of, width_of, height_of, stride_of, gri
 
 use crate::containers::{AsMutSlice, AsSlice};
 use crate::img::{Img, ImgRef, ImgRefMut};
-use image_flips::{padded_part, padded_stretch_mut};
 use image_shape::{Shape, Stretch, Window};
+use image_writes::{padded_part, padded_stretch_mut};
 
 impl<'s, T> Img<&'s [T]> {
     /// The image that is seen through a window: it has the same cells, at the same stride.

@@ -13,7 +13,7 @@ use Rattle.image_turns.specs.declared.pixel_turning.Orientation.TheVariants.{Tra
 use Rattle.imgref_c.specs.Calls.{Writes}
 
 -- a patch of the whole size is all that is left
-patched_whole : {T : Type 0} (l : Layout T) (h : Grid T) (f : ℕ → ℕ → Option T) → h ≡ grid l.width l.height f → h ≡ patch (grid_of l) 0 0 h
+pub patched_whole : {T : Type 0} (l : Layout T) (h : Grid T) (f : ℕ → ℕ → Option T) → h ≡ grid l.width l.height f → h ≡ patch (grid_of l) 0 0 h
 unfolding grid_of
 patched_whole l h f is =
     is

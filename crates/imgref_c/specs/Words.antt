@@ -25,3 +25,4 @@ pub use Rattle.imgref_c.specs.Status.{code, first, is_image as passes, IsImage, 
 pub use Rattle.imgref_c.specs.Numbering.{Numbered}
 pub use Rattle.imgref_c.specs.Claims.{window_status_of, mosaic_status_of, move_status_of, seen_in, WritesIn, part_status, tiled_status, into_status, in_place_status, shown_by, ChangesPart, WritesAll, IsPart}
 pub use Rattle.imgref_c.specs.Calls.{seen, Writes, Packs, Finds, Gives, Fills, Labels, IsBox}
+pub use Rattle.imgref_c.specs.Blurs.{blur_status, blur_status_of, boxes_of, copy_room, sums_room, KeepsRoom}

@@ -6,9 +6,9 @@ ghost use Rattle.imgref_c.specs.Words.{as_window, code, in_cells, pixel_window_s
 
 use crate::images::ClaimedShape;
 use crate::status::Status;
-use image_flips::padded_part;
 use image_ops::count_value;
 use image_shape::Window;
+use image_writes::padded_part;
 
 // How many pixels of the window have the value goes to `count`.
 pub(crate) fn count<T: PartialEq>(

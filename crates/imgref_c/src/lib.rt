@@ -10,6 +10,7 @@
 #![tactic(auto)]
 
 mod areas;
+mod blurs;
 mod counts;
 mod flips;
 mod images;

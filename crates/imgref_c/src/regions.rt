@@ -1,6 +1,6 @@
 //! Regions of connected places: they are filled, labelled, or framed by a box.
 
-ghost use Rattle.std.specs.Prelude.{◌≡◌, length};
+ghost use Rattle.std.specs.Prelude.{◌≡◌, ◌<◌, length};
 ghost use Rattle.imgref_c.specs.Words.{as_window, code, flood_status, grid_of, image_status, labels_status, layout, Fills, Gives, IsBox, Labels, TellsApart};
 
 use crate::images::ClaimedShape;
@@ -23,6 +23,7 @@ pub(crate) fn flood_fill<T: Copy + PartialEq>(
     ensures fills { Fills (code result) (layout cells.old claimed.width claimed.height
         claimed.stride) (layout cells.new claimed.width claimed.height claimed.stride)
         place.0 place.1 value }
+    ensures room { 0 < code result → room.new ≡ room.old }
 {
     if !claimed.is_image(cells.len()) {
         return Status::NotAnImage;
@@ -57,6 +58,7 @@ pub(crate) fn components<T: Copy + PartialEq>(
         (layout labels.old claimed.width claimed.height claimed_labels.stride)
         (layout labels.new claimed.width claimed.height claimed_labels.stride)
         count.old count.new }
+    ensures room { 0 < code result → room.new ≡ room.old }
 {
     if !claimed.is_image(cells.len()) || !claimed_labels.is_image(labels.len()) {
         return Status::NotAnImage;

@@ -1,6 +1,6 @@
 //! Made from `u8_exports.rt` by `make exports`: the same exports, for cells of type `u64`.
 
-ghost use Rattle.std.specs.Prelude.{◌≡◌, ◌*◌, ◌==◌, ◌↔◌, IsTrue, length, Some};
+ghost use Rattle.std.specs.Prelude.{◌≡◌, ◌*◌, ◌<◌, ◌==◌, ◌↔◌, IsTrue, length, Some};
 ghost use Rattle.imgref_c.specs.Words.{as_window, code, copy_status, flipped, flood_status, grid_of, image_status, in_cells, labels_status, layout, mirrored_by, mosaic_by, mosaic_of, mosaic_status, move_status, oriented, oriented_in_place_status, oriented_status, pair_status, pixel_mosaic_status, pixel_window_status, place_status, repeated, rows_status, rows_swapped, seen, times_shown, turn_by, turn_in_place_status, turn_status, uniform, window_status, Agree, Fills, Gives, IsBox, Labels, Packs, Transposed, Writes};
 
 use crate::images::ClaimedShape;
@@ -406,6 +406,7 @@ pub extern "C" fn imgref_u64_flood_fill(
         ≡ code (flood_status (length cells.old) width height stride x y (length room.old)) }
     ensures fills { Fills result (layout cells.old width height stride)
         (layout cells.new width height stride) x y value }
+    ensures room { 0 < result → room.new ≡ room.old }
 {
     let claimed = ClaimedShape::new(width, height, stride);
     regions::flood_fill(cells, claimed, (x, y), value, room).code()
@@ -431,6 +432,7 @@ pub extern "C" fn imgref_u64_components(
     ensures labels { Labels result (layout cells.now width height stride)
         (layout labels.old width height labels_stride)
         (layout labels.new width height labels_stride) count.old count.new }
+    ensures room { 0 < result → room.new ≡ room.old }
 {
     let claimed = ClaimedShape::new(width, height, stride);
     let claimed_labels = ClaimedShape::new(width, height, labels_stride);

@@ -3,7 +3,7 @@
 //! C has no generic functions, and Rattle's macros can't write functions. So the files for cells of
 //! two, four and eight bytes are copies of this one, which `make exports` writes.
 
-ghost use Rattle.std.specs.Prelude.{◌≡◌, ◌*◌, ◌==◌, ◌↔◌, IsTrue, length, Some};
+ghost use Rattle.std.specs.Prelude.{◌≡◌, ◌*◌, ◌<◌, ◌==◌, ◌↔◌, IsTrue, length, Some};
 ghost use Rattle.imgref_c.specs.Words.{as_window, code, copy_status, flipped, flood_status, grid_of, image_status, in_cells, labels_status, layout, mirrored_by, mosaic_by, mosaic_of, mosaic_status, move_status, oriented, oriented_in_place_status, oriented_status, pair_status, pixel_mosaic_status, pixel_window_status, place_status, repeated, rows_status, rows_swapped, seen, times_shown, turn_by, turn_in_place_status, turn_status, uniform, window_status, Agree, Fills, Gives, IsBox, Labels, Packs, Transposed, Writes};
 
 use crate::images::ClaimedShape;
@@ -409,6 +409,7 @@ pub extern "C" fn imgref_u8_flood_fill(
         ≡ code (flood_status (length cells.old) width height stride x y (length room.old)) }
     ensures fills { Fills result (layout cells.old width height stride)
         (layout cells.new width height stride) x y value }
+    ensures room { 0 < result → room.new ≡ room.old }
 {
     let claimed = ClaimedShape::new(width, height, stride);
     regions::flood_fill(cells, claimed, (x, y), value, room).code()
@@ -434,6 +435,7 @@ pub extern "C" fn imgref_u8_components(
     ensures labels { Labels result (layout cells.now width height stride)
         (layout labels.old width height labels_stride)
         (layout labels.new width height labels_stride) count.old count.new }
+    ensures room { 0 < result → room.new ≡ room.old }
 {
     let claimed = ClaimedShape::new(width, height, stride);
     let claimed_labels = ClaimedShape::new(width, height, labels_stride);

@@ -80,7 +80,8 @@ fn brighter_values(by: u8) -> [u8; 256]
 /// The same in a copy, by a table of the values.
 pub fn brighten_copy(alloc: Global, image: ImgRef<'_, u8>, by: u8) -> Result<ImgVec<u8>, AllocError>
     requires { Fits (ref_layout image) }
-    ensures { IfOk result (λ i. vec_grid i ≡ brightened by (ref_grid image.entry)) }
+    ensures grid { IfOk result (λ i. vec_grid i ≡ brightened by (ref_grid image.entry)) }
+    ensures fits { IfOk result (λ i. Fits (vec_layout i)) }
 {
     bound_u8(image);
     let made = map_by(alloc, image, &brighter_values(by))?;

@@ -4,6 +4,7 @@ ghost use Rattle.std.specs.Prelude.{◌≡◌, ◌<◌, ◌+◌, ◌-◌, ◌^�
 ghost use Rattle.imgref.specs.Words.{Fits, from_places, height_of, ref_grid, ref_layout, shown, vec_grid, vec_layout, width_of};
 ghost use Rattle.imgref_examples.specs.Gauss.{smooth, smoothed};
 
+use crate::scaling::at;
 use imgref::{ImgExt, ImgRef, ImgVec};
 use std::alloc::{AllocError, Global};
 
@@ -12,14 +13,6 @@ fn weighed(before: u8, here: u8, after: u8) -> u8
     ensures { result ≡ smooth before here after }
 {
     ((u16::from(before) + 2 * u16::from(here) + u16::from(after)) / 4) as u8
-}
-
-// The pixel at a place.
-fn at(image: ImgRef<'_, u8>, x: usize, y: usize) -> u8
-    requires { Fits (ref_layout image) }
-    ensures { result ≡ shown (ref_grid image.entry) x y }
-{
-    image.get(x, y).unwrap_or(0)
 }
 
 // A place of the first pass. Past an edge the pixel at the edge counts.

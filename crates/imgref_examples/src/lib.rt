@@ -33,6 +33,7 @@ mod masks;
 mod nested;
 #[cfg(test)]
 mod outcomes;
+mod overwritten;
 mod paste;
 mod pixels;
 mod points;
@@ -49,7 +50,7 @@ mod tiles;
 mod upside_down;
 mod windows;
 
-pub use areas::{integral, sum_up_to};
+pub use areas::sum_up_to;
 pub use beside::put_above_fill;
 pub use blits::{copy_across, copy_but_one, copy_over_cells, scroll_up};
 pub use blur::box_blur_3x3;
@@ -67,7 +68,7 @@ pub use drawing::{dot, put_then_get, stripes, three_by_index, three_places};
 pub use gauss::gaussian_3x3;
 pub use halves::halve;
 pub use hashes::have_one_hash;
-pub use image_regions::{bounding_box, flood_fill, histogram};
+pub use image_regions::{bounding_box, flood_fill, histogram, integral};
 pub use joined::are_connected;
 pub use kinds::{
     draw_any, draw_lent, flip_any, pixel_of_any, pixel_of_ref, pixel_of_vec, put_and_read,
@@ -77,6 +78,7 @@ pub use literals::half_ramp;
 pub use luma::{FrameError, luma_plane};
 pub use masks::blend_masked;
 pub use nested::greatest_in;
+pub use overwritten::{checkerboard, threshold_into};
 pub use paste::{paste_at, paste_sprite};
 pub use pixels::{invert_lent, invert_owner, write_first};
 pub use points::{invert, threshold};

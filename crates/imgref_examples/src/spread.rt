@@ -28,6 +28,16 @@ fn spread(counts: &[u64; 256], sums: &[u128; 256], value: u8) -> u8
     share(sums[usize::from(value)], sums[255])
 }
 
+// The sums of the counts, with the last of them: no other is greater.
+fn sums_of(counts: &[u64; 256]) -> [u128; 256]
+    ensures sums { (v : ℕ) → v < 256 → slice_index result v ≡ sum (take (v + 1) counts.now) }
+    ensures whole { slice_index result 255 ≡ sum counts.now }
+    ensures part { (v : ℕ) → v < 256 → slice_index result v ≤ slice_index result 255 }
+    ensures small { sum counts.now < 2 ^ 72 }
+{
+    cumulative(counts)
+}
+
 /// Spreads the values of an image over all of 0 to 255, by the cumulative histogram.
 pub fn equalize(image: &mut ImgVec<u8>)
     requires fits { Fits (vec_layout image.old) }
@@ -35,6 +45,6 @@ pub fn equalize(image: &mut ImgVec<u8>)
     ensures outside { SameOutside (vec_layout image.old) (vec_layout image.new) }
 {
     let counts = histogram(image.as_ref());
-    let sums = cumulative(&counts);
+    let sums = sums_of(&counts);
     image.map_pixels(|p| spread(&counts, &sums, p));
 }

@@ -1,13 +1,9 @@
 //! Edits frames of raw video or pictures, one by one, from standard input to standard output.
 #![tactic(auto)]
 
-mod cells;
+mod alike;
 mod descriptors;
 mod files;
-mod frames;
-mod pictures;
-mod program;
-mod request;
 
 pub use devices::Counted;
 use devices::Retried;
@@ -16,18 +12,18 @@ use frame_edits::{BoxStyle, Edits};
 pub use frame_edits::{Edit, Framing, Paint};
 pub use frame_heads::{Format, Picture, Rate};
 pub use frame_lists::Range;
+pub use frame_messages::is_wanted;
 use frame_messages::{
     Ending, Noted, Texts, ending_of, order_status, say_boxes, say_no_head, say_no_words,
-    say_odd_boxes, say_reason, say_shared, write_report,
+    say_odd_boxes, say_reason, say_shared, tell_found, write_report,
 };
-pub use frame_messages::{RunFault, is_wanted};
+pub use frame_requests::{RunFault, Seen, Shape, Stretch};
 use frame_requests::{
     FileId, Files, Options, Refusal, edits_asked, has_blur, read_options, reads_input_twice,
     shared_file, words_of,
 };
-pub use frame_requests::{Seen, Shape, Stretch};
+use frame_runs::run;
 pub use image_planes::{Axes, Change, Scratch, Window};
-pub use program::run;
 use std::fs::File;
 use std::io;
 use std::io::{BufReader, BufWriter, ErrorKind, Write};
@@ -81,7 +77,7 @@ OPTION:
        --help, -h        prints this
        --version         prints the version
 Cover first: a move, a mosaic, means or a blur before a cover may show what it covers.
-See docs/FRAMES.md.";
+The guide is FRAMES.md in share/doc/imgref, /usr/share/doc/imgref-tools, or docs of the sources.";
 
 // The version of the program and of the library.
 const VERSION: &str = "imgref_frames 0.4.0";
@@ -215,7 +211,16 @@ impl Call<'_> {
         if let Err(fault) = outcome {
             self.tell(fault, &seen, source, sink);
         }
-        ending_of(self.noted(), self.options, &seen, outcome, is_kept)
+        let ending = ending_of(self.noted(), self.options, &seen, outcome, is_kept);
+        let _ = tell_found(
+            self.noted(),
+            self.options,
+            &seen,
+            outcome,
+            ending.found,
+            &mut self.rt.stderr(),
+        );
+        ending
     }
 
     // Waits until the output is on its disk, and writes the report of so many frames. Where that
@@ -276,7 +281,7 @@ impl Call<'_> {
     // The edits, for notes about them.
     fn noted(&self) -> Noted<'_> {
         Noted {
-            rt: self.rt,
+            alloc: self.rt.alloc(),
             steps: &self.edits.steps,
             texts: self.texts,
             strict: self.options.strict,
@@ -285,12 +290,14 @@ impl Call<'_> {
 
     // Prints which covers cover nothing in so many frames.
     fn note_covers(&self, seen: &Seen, count: u64) {
-        let _ = self.noted().say_uncovered(seen, count);
+        let mut errors = self.rt.stderr();
+        let _ = self.noted().say_uncovered(seen, count, &mut errors);
     }
 
     // Prints which ranges so many frames don't reach.
     fn note_ranges(&self, seen: &Seen, count: u64) {
-        let _ = self.noted().say_unreached(count, seen.rate());
+        let mut errors = self.rt.stderr();
+        let _ = self.noted().say_unreached(count, seen.rate(), &mut errors);
     }
 
     // The new file of the output, where it has a name, or standard output.
@@ -546,7 +553,7 @@ fn carry(
         texts,
         words,
     };
-    let late = match call.noted().say_late() {
+    let late = match call.noted().say_late(&mut rt.stderr()) {
         Ok(late) => late,
         Err(_) => return end(rt, RunFault::Memory(0)),
     };

@@ -1,13 +1,13 @@
 -- Rows joined at the front of the list, one after the other.
 use Rattle.std.proofs.Common.{◌≡◌, ℕ, ◌+◌, ◌-◌, ◌*◌, ◌<◌, ◌≤◌, List, ◌++◌, length, take, drop, sym, ap, ◌∙◌, arith, refl}
 use Rattle.std.proofs.lemmas.List.{take_at, drop_at, drop-drop, append-nil, take-append-drop}
+use Rattle.std.proofs.lemmas.Nat.{mul-le}
 use Rattle.std.proofs.Math.Nat.{mul-add, mul-le-mul_left, mul-le-mul_right}
 use Rattle.image_model.specs.Layout.{Layout, layout, Fits}
 use Rattle.image_model.specs.Rows.{row, joined_rows}
 use Rattle.image_model.specs.Shifts.{shifted}
 use Rattle.image_model.proofs.Rows.{HasRows, joined_upto, joined_upto_more, length-joined_upto, row_is, rows_from_fits, joined_in_place}
-use Rattle.row_mover.specs.State.{State}
-use Rattle.row_mover.proofs.Shifting.{IsShifted}
+use Rattle.row_mover.specs.State.{State, IsShifted}
 
 -- the list with its first y rows joined at the front, and as it was after them
 abbrev pub compacted_upto : {T : Type 0} → Layout T → ℕ → List T
@@ -54,10 +54,10 @@ module _ {T : Type 0} (old : State T) (w h s : ℕ) (fits : Fits (layout old.cel
   -- the shift of a row joins it
   pub compacted_after : (now new : State T) (y : ℕ) → IsCompactedUpto old now w h s y → w ≤ s → y < h → IsShifted now new (y * s) w (y * w) → IsCompactedUpto old new w h s (y + 1)
   compacted_after now new y part covers below shift = record {
-    cells_are = rw (shift.cells_are, part.cells_are) (compacted_upto-more (layout old.cells w h s) y fits some covers below);
-    length_stays = shift.length_stays ∙ part.length_stays;
-    count_is = omega (arith, shift.count_is, part.count_is);
-    lender_stays = shift.lender_stays ∙ part.lender_stays;
+    cells_are = rw (shift.cells, part.cells_are) (compacted_upto-more (layout old.cells w h s) y fits some covers below);
+    length_stays = shift.as_many ∙ part.length_stays;
+    count_is = omega (arith, shift.shifts, part.count_is);
+    lender_stays = shift.lender ∙ part.lender_stays;
   }
 
 -- where the rows touch, or there is no pixel, there is nothing to do
@@ -71,6 +71,12 @@ stays_apart w s first y apart covers later =
     let same : w + (s - w) ≡ s = omega (arith, covers) in
     let whole : y * s ≡ y * w + y * (s - w) = rw same at (mul-add y w (s - w)) in
     omega (arith, apart, more, whole)
+
+-- up to a row that is there, so many cells a row end before the last row ends
+pub row_within : {T : Type 0} (cells : List T) (w h s y n : ℕ) → Fits (layout cells w h s) → 0 < w → y < h → n ≤ s → y * n ≤ length cells
+row_within cells w h s y n fits some below narrow =
+    let last : s * (h - 1) + w ≤ length cells = fits some (omega arith) in
+    omega (arith, mul-le y n (h - 1) s (omega arith) narrow)
 
 -- what the proof of a compaction goes by
 pub ruleset compacting = (compacted_first, compacted_after, compacted_already, stays_apart)

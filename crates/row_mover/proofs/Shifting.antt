@@ -1,18 +1,10 @@
--- A shift: the new state, and its cells one by one.
+-- The cells after a shift, one by one.
 use Rattle.std.proofs.Common.{◌≡◌, ℕ, ◌+◌, ◌<◌, ◌≤◌, ◌⊎◌, List, ◌++◌, length, take, drop, get_or, arith, length-append, length-take, length-drop}
 use Rattle.std.specs.List.{slice_get}
 use Rattle.std.proofs.lemmas.List.{get_or_append_left, get_or-append_right, get_or-take, get_or-drop}
 use Rattle.std.proofs.lemmas.Option.{slice_get_cases, slice_get_past}
 use Rattle.image_model.specs.Shifts.{shifted}
 use Rattle.image_model.proofs.Pixels.{same_cell}
-use Rattle.row_mover.specs.State.{State}
-
--- the new state is the old one with one shift more
-pub record IsShifted {T : Type 0} (old new : State T) (start len target : ℕ) : Type 0 where
-  pub cells_are : new.cells ≡ shifted old.cells start len target
-  pub length_stays : length new.cells ≡ length old.cells
-  pub count_is : new.shifts ≡ old.shifts + 1
-  pub lender_stays : new.lender ≡ old.lender
 
 module _ {T : Type 0} (cells : List T) (start len target : ℕ) (source_inside : start + len ≤ length cells) (target_inside : target + len ≤ length cells) where
   abbrev before : List T

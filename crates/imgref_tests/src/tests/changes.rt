@@ -117,6 +117,32 @@ fn a_window_is_mapped_and_its_rows_change_places(rt: HostRuntime) -> Result<(), 
     Ok(())
 }
 
+#[test]
+fn places_are_filled_alone(rt: HostRuntime) -> Result<(), Fail> {
+    let mut owner = padded(rt.alloc())?;
+    assert!(rt; owner.is_valid());
+    owner.fill_places(|x, y| if x == y { 7 } else { 0 });
+    assert!(rt; owner.buf().as_slice() == [7u8, 0, 0, 4, 0, 7, 0, 8, 9].as_slice());
+    assert!(rt; owner.has_window(1, 0, 2, 2));
+    owner
+        .sub_image_mut(1, 0, 2, 2)
+        .fill_places(|x, y| if x < y { 1 } else { 2 });
+    assert!(rt; owner.buf().as_slice() == [7u8, 2, 2, 4, 0, 1, 2, 8, 9].as_slice());
+    Ok(())
+}
+
+#[test]
+fn pixels_come_from_another_image(rt: HostRuntime) -> Result<(), Fail> {
+    let mut owner = padded(rt.alloc())?;
+    let source = [300u16, 2, 3, 99, 99, 4, 500, 6];
+    let source = Img::new_stride(source.as_slice(), 3, 2, 5);
+    assert!(rt; owner.is_valid() && source.is_valid());
+    assert!(rt; source.width() == owner.width() && source.height() == owner.height());
+    owner.map_from(source, |p| if p > 255 { 255 } else { 1 });
+    assert!(rt; owner.buf().as_slice() == [255u8, 1, 1, 4, 1, 255, 1, 8, 9].as_slice());
+    Ok(())
+}
+
 // The clause says which results are written, and not how often the closure is called.
 #[test]
 fn a_closure_is_called_once_a_pixel(rt: HostRuntime) -> Result<(), Fail> {

@@ -1,6 +1,6 @@
 -- One other more, and all of them.
-use Rattle.std.proofs.Common.{◌<◌, ◌+◌, ◌++◌, ◌∙◌, true, false, ap, arith, drop, length, sym}
-use Rattle.frame_requests.specs.Late.{is_late, pairs_among}
+use Rattle.std.proofs.Common.{◌<◌, ◌+◌, ◌++◌, ◌∙◌, ap, arith, drop, length, sym}
+use Rattle.frame_requests.specs.Late.{pairs_among}
 use Rattle.frame_requests.proofs.LatePairs.{all_paired, no_pair, pair_added}
 use Rattle.frame_requests.proofs.late.add_early.Goals as goal
 use Rattle.frame_requests.proofs.late.add_early.Goals.{then-is_late+in_ok-push, else-is_late}

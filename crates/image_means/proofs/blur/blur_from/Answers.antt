@@ -1,11 +1,12 @@
 -- The sums are those of the box's rows, and one row more is a row of means.
 use Rattle.std.proofs.Common.{◌≡◌, ℕ, ◌+◌, ◌-◌, ◌*◌, ◌/◌, ◌<◌, ◌≤◌, ◌^◌, Some, length, take, drop, length-take, length-drop, ap, subst, sym, ◌∙◌, arith}
 use Rattle.std.proofs.lemmas.Nat.{mul-le}
+use Rattle.std.proofs.lemmas.Grind.{common_steps}
 use Rattle.image_model.specs.Grid.{grid_of}
 use Rattle.image_model.specs.Rows.{row_count}
 use Rattle.image_model.proofs.Rows.{row_count-wide, some_column}
 use Rattle.image_shape.specs.Shape.{shaped_grid}
-use Rattle.image_means.specs.Blur.{BlursRow, column_upto, sum_at, box_mean, box_first, box_end}
+use Rattle.image_means.specs.Blur.{AreFactors, BlursRow, column_upto, least_columns, sum_at, box_mean, box_first, box_end}
 use Rattle.image_means.specs.Means.{sample_number, sample_cells, sample_start, cell_number}
 use Rattle.image_means.proofs.Samples.{sample_short, of_bytes}
 use Rattle.image_means.proofs.ColumnSums.{column_between, column_grows}
@@ -58,6 +59,12 @@ blur_row-requires-clause-sums c =
           );
     }
 
+pub blur_row-requires-clause-factors : goal.blur_row-requires-clause-factors
+blur_row-requires-clause-factors c =
+    let a = c.args in
+    let many : length c.take_rows.new.sums ≡ length a.sums.now = omega (arith, c.take_rows.ensures.as_many, c.add_rows.ensures.as_many, c.loop-y.invariant.as_many) in
+    subst (λ n. AreFactors c.find_factors.new.factors n (c.min-next_end.result - c.saturating_sub-next_first.result)) (c.min-least.ensures ∙ ap (λ n. least_columns (n / a.blur.per) a.blur.across) (sym many)) c.find_factors.ensures.found
+
 pub loop-y-preserved : goal.loop-y-preserved
 loop-y-preserved c =
     let a = c.args in
@@ -108,3 +115,6 @@ returns c =
       grid = shows_table (λ x j. Some (means x j)) a.cells.now c.loop-y.cells a.shape c.loop-y.y c.loop-y.invariant.put all;
       outside = outside_stays (λ x j p. p ≡ Some (means x j)) a.cells.now c.loop-y.cells a.shape c.loop-y.y c.loop-y.invariant.put all;
     }
+
+pub loop-y-init : goal.loop-y-init
+loop-y-init c = grind (arith, common_steps)

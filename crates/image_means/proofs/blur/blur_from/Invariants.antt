@@ -12,7 +12,7 @@ invariant-loop-y l = record {
   put : RowsDone (λ x j p. p ≡ Some (cell_number l.blur.bytes x (box_mean l.blur.bytes (l.blur.per * sample_cells l.blur.bytes) l.blur.across l.blur.down (shaped_grid l.source l.shape) (sample_start l.blur.bytes x) j))) l.fn.cells l.cells l.shape l.y;
   as_many : length l.sums ≡ length l.fn.sums;
   short : length l.factors ≤ 512;
-  factors : 0 < l.known → AreFactors l.factors l.known;
+  factors : 0 < l.known → AreFactors l.factors l.least l.known;
   begins : l.first ≡ l.y - 1 - l.blur.down;
   ends : l.end ≤ min (row_count (shape_width l.shape) (shape_height l.shape)) (l.y + l.blur.down);
   order : l.first ≤ l.end;

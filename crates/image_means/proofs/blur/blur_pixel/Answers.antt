@@ -4,6 +4,9 @@ use Rattle.std.proofs.lemmas.List.{get_or-set_other, length-set}
 use Rattle.image_means.proofs.Spans.{box, next_before, sample_end, span_widens, sums_widen}
 use Rattle.image_means.proofs.blur.blur_pixel.Goals as goal
 
+pub factor_for-factor-requires-clause-known : goal.factor_for-factor-requires-clause-known
+factor_for-factor-requires-clause-known c = λ short. c.requires.factors.each _ (omega (arith, c.min.ensures, c.saturating_sub.ensures, c.requires.pixel)) (omega (arith, c.min.ensures, c.saturating_sub.ensures, c.requires.pixel)) short
+
 pub mean_by-mean-requires-clause-samples : goal.mean_by-mean-requires-clause-samples
 mean_by-mean-requires-clause-samples c = (box c.requires.can c.loop-i.i (omega (arith, c.loop-i-test.true, c.loop-i.auto.i-end)) c.min.result c.saturating_sub.result c.requires.pixel c.next_box-sum.ensures (omega (arith, c.min.ensures)) (omega (arith, c.saturating_sub.ensures))).samples
 

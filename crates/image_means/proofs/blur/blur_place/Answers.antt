@@ -5,6 +5,9 @@ use Rattle.image_means.proofs.Spans.{spans_join}
 use Rattle.image_means.proofs.blur.blur_place.Goals.{then-factor-gt0+then-from-end, else-factor-gt0}
 use Rattle.image_means.proofs.blur.blur_place.Goals as goal
 
+pub factor_for-factor-requires-clause-known : goal.factor_for-factor-requires-clause-known
+factor_for-factor-requires-clause-known g c = λ short. c.requires.factors.each _ (omega arith) (omega arith) short
+
 pub returns : goal.returns
 returns g c =
     let place = c.args.place in

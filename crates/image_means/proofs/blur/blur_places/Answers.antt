@@ -3,6 +3,7 @@ use Rattle.std.proofs.Common.{◌≡◌, ◌<◌, ◌≤◌, ◌+◌, ◌-◌, �
 use Rattle.std.proofs.Math.Nat.{add-mul, mul-le-mul_right}
 use Rattle.std.proofs.lemmas.Bool.{cases_lt}
 use Rattle.std.specs.List.{slice_get}
+use Rattle.std.proofs.lemmas.Grind.{common_steps}
 use Rattle.image_means.specs.Blur.{sums_mean}
 use Rattle.image_means.specs.Means.{sample_cells, cell_number}
 use Rattle.image_means.proofs.BoxSums.{pixel_of}
@@ -27,3 +28,6 @@ loop-group-preserved g c =
                 subst (λ m. slice_get c.blur_place.new.row ((q * a.blur.per + m) * sample_cells a.blur.bytes + n) ≡ Some (cell_number a.blur.bytes n (sums_mean a.sums.now a.blur.per a.blur.across a.lines q m))) same (placed.each q (b - at) n (omega arith) (pixel_of (length a.sums.now) a.blur.per q b c.requires.sums.whole there) inside inner)
           ];
     }
+
+pub returns : goal.returns
+returns g c = grind (arith, common_steps)

@@ -1,5 +1,6 @@
 -- The numbers have 32 bits, and one pixel more is done.
 use Rattle.std.proofs.Common.{◌<◌, ◌+◌, ◌/◌, subst, ◌∙◌, arith}
+use Rattle.std.proofs.lemmas.Grind.{common_steps}
 use Rattle.image_means.specs.Blur.{whole_count, AreSumsBefore, BlursSpan}
 use Rattle.image_means.proofs.Spans.{half_fits, half_within, spans_join}
 use Rattle.image_means.proofs.blur.blur_whole.Goals as goal
@@ -28,3 +29,12 @@ take_half-requires-clause-parts g c = λ i below.
     let so = c.loop-p.invariant in
     let inner : i < g.row.N = omega (arith, below, so.as_many) in
     omega (arith, half_within c.requires.can i inner c.loop-p.p _ (omega (arith, c.loop-p-test.false, c.loop-p.auto.p-end, c.requires.last)) (so.sums.each i inner))
+
+pub loop-p-init : goal.loop-p-init
+loop-p-init g c = grind (arith, common_steps)
+
+pub returns-clause-sums : goal.returns-clause-sums
+returns-clause-sums g c = grind (arith, common_steps)
+
+pub returns-clause-means : goal.returns-clause-means
+returns-clause-means g c = grind (arith, common_steps)

@@ -1,6 +1,9 @@
 -- The number of the next box fits, its quotient is the mean, and one sample more is put.
-use Rattle.std.proofs.Common.{◌<◌, ◌+◌, ◌-◌, ◌*◌, ◌/◌, ◌^◌, ap, ◌∙◌, length, arith}
+use Rattle.std.proofs.Common.{◌<◌, ◌+◌, ◌-◌, ◌*◌, ◌/◌, ◌^◌, ap, ◌∙◌, length, ℕ, arith}
+use Rattle.std.proofs.Math.Nat.{div-mul-le_self}
+use Rattle.std.proofs.lemmas.Nat.{mul-le}
 use Rattle.std.proofs.lemmas.List.{get_or-set_other, length-set}
+use Rattle.std.proofs.lemmas.Grind.{common_steps}
 use Rattle.image_means.specs.Blur.{sum_at}
 use Rattle.image_means.proofs.Spans.{sample_end, span_widens, sums_widen, whole_box}
 use Rattle.image_means.proofs.blur.blur_whole_pixel.Goals as goal
@@ -34,3 +37,27 @@ loop-i-preserved c =
       left = λ j after below. omega (arith, get_or-set_other c.loop-i.numbers i j number 0 (λ same. absurd (omega (arith, same, after))), so.left j (omega (arith, after)) below);
       means = span_widens c.requires.can i inner (c.quotient_by-mean.ensures ∙ ap (λ n. n * a.factor / 2 ^ 47) c.from.ensures ∙ box.mean) so.means c.put_sample.ensures;
     }
+
+pub loop-i-init : goal.loop-i-init
+loop-i-init c = grind (arith, common_steps)
+
+pub overflow_mul-gained : goal.overflow_mul-gained
+overflow_mul-gained c = grind (arith, common_steps)
+
+pub overflow_add-gained-in-loop-i : goal.overflow_add-gained-in-loop-i
+overflow_add-gained-in-loop-i c = grind (arith, common_steps)
+
+pub offset_bounds-sums-p-in-loop-i : goal.offset_bounds-sums-p-in-loop-i
+offset_bounds-sums-p-in-loop-i c = grind (arith, common_steps)
+
+pub overflow_add-p : goal.overflow_add-p
+overflow_add-p c = grind (arith, common_steps)
+
+pub returns-clause-means : goal.returns-clause-means
+returns-clause-means c = grind (arith, common_steps)
+
+pub bounds-sums-p-in-loop-i : goal.bounds-sums-p-in-loop-i
+bounds-sums-p-in-loop-i c =
+    let blur = c.args.place.blur in
+    let count : ℕ = length c.args.sums.now / blur.per in
+    omega (arith, mul-le (c.args.p + blur.across + 1) blur.per count blur.per (omega (arith, c.requires.last)) (omega arith), div-mul-le_self (length c.args.sums.now) blur.per, c.requires.can.places, c.loop-i-test.true, c.loop-i.auto.i-end)

@@ -1,6 +1,7 @@
 -- The lines of the tile are inside, no number overflows, and what is divided early is added.
 use Rattle.std.proofs.Common.{◌≡◌, ℕ, ◌<◌, ◌≤◌, ◌+◌, ◌-◌, ◌*◌, ◌^◌, ◌/◌, ◌%◌, length, refl, sym, ap, ap₂, ◌∙◌, subst, arith}
 use Rattle.std.proofs.lemmas.Nat.{mod_below}
+use Rattle.std.proofs.lemmas.Grind.{common_steps}
 use Rattle.image_model.specs.Tiles.{tile_count}
 use Rattle.image_model.proofs.Tiles.{tile_counted}
 use Rattle.std.proofs.Math.Nat.{mul_assoc, mul_comm}
@@ -127,3 +128,12 @@ returns-clause-value g c =
     let f : ℕ → ℕ → ℕ = λ i j. sample_in a.bytes g.T.Sample.number a.cells.now (a.lines.first.start + (j * a.lines.stride + i * a.size)) in
     let whole : total g c ≡ sum_upto a.lines.count (λ j. sum_upto across (λ i. f i j)) = c.loop-line.invariant.value ∙ ap (λ n. sum_upto n (λ j. sum_upto across (λ i. f i j))) (all g c) in
     is g c ∙ ap₂ rounded_mean whole (ap (λ n. n * a.lines.count) (sym (here g c)))
+
+pub nonzero_div-mean : goal.nonzero_div-mean
+nonzero_div-mean g c = grind (arith, common_steps)
+
+pub nonzero_rem-sum : goal.nonzero_rem-sum
+nonzero_rem-sum g c = grind (arith, common_steps)
+
+pub rounded-requires : goal.rounded-requires
+rounded-requires g c = grind (arith, common_steps)

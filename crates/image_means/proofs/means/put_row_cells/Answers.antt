@@ -1,6 +1,7 @@
 -- One cell more: of the first pixel of a tile, or of another.
 use Rattle.std.proofs.Common.{◌≡◌, ℕ, ◌+◌, ◌-◌, ◌*◌, ◌%◌, ◌<◌, ◌≤◌, ◌^◌, min, inl, inr, List, refl, ap, sym, ◌∙◌, arith}
 use Rattle.std.proofs.lemmas.Nat.{mul-le}
+use Rattle.std.proofs.lemmas.Grind.{common_steps}
 use Rattle.image_means.specs.Means.{sample_cells, sample_number, sample_start, cell_number, row_mean, row_cell}
 use Rattle.image_means.proofs.MeanTiles.{PutUpto, next_put, later_stays, cell_put, mean_begun, tile_whole}
 use Rattle.image_means.proofs.Samples.{whole_tile, same_start, cell_within}
@@ -98,3 +99,6 @@ loop-x-preserved g c =
             within = l.invariant.within;
           })
     ]
+
+pub returns : goal.returns
+returns g c = grind (arith, common_steps)

@@ -1,5 +1,6 @@
 -- All cells of the first pixel have their means.
 use Rattle.std.proofs.Common.{◌≡◌, ◌-◌, ◌*◌, ◌<◌, min, length, ap, sym, ◌∙◌, arith}
+use Rattle.std.proofs.lemmas.Grind.{common_steps}
 use Rattle.image_model.specs.Tiles.{tile_count}
 use Rattle.image_model.proofs.Tiles.{tile_begins}
 use Rattle.image_means.specs.LineSums.{sums_cell}
@@ -25,3 +26,6 @@ pub returns : goal.returns
 returns g c =
     let a = c.args in
     first_pixel (sums_cell g.C.Tally.tally g.T.Sample.sample a.tile.size a.tile.width a.lines a.sums.now) a.tile.size a.tile.width a.start (length a.sums.now) c.loop-c.c a.cells.now c.loop-c.cells c.requires.sums.some c.requires.sums.wide (omega (arith, c.requires.one)) (omega (arith, c.loop-c-test.false, c.loop-c.auto.c-end, c.min-c-end.ensures)) c.loop-c.invariant
+
+pub offset_bounds-cells-start : goal.offset_bounds-cells-start
+offset_bounds-cells-start g c = grind (arith, common_steps)

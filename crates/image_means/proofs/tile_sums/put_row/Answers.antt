@@ -1,6 +1,7 @@
 -- One stretch more.
 use Rattle.std.proofs.Common.{◌≡◌, ℕ, ◌+◌, ◌*◌, ◌/◌, ◌≤◌, List, length, take, drop, length-take, length-drop, length-append, arith}
 use Rattle.std.proofs.lemmas.Nat.{div-add-mod'}
+use Rattle.std.proofs.lemmas.Grind.{common_steps}
 use Rattle.image_means.specs.Means.{row_cell}
 use Rattle.image_means.specs.declared.means.SampleBytes.TheVariants.{One}
 use Rattle.image_means.proofs.SumsOfTiles.{put_next, stretch_cell}
@@ -28,3 +29,9 @@ loop-from-preserved g c =
       put = put_next (cell a.lines.first.start a.lines.first.len a.cells.now) a.tile.size a.tile.width a.lines.first.start a.lines.first.len r.lines.some r.lines.wide a.cells.now now from so.put (cell (a.lines.first.start + from) len now) m most len new c.loop-from-test.true step c.min-len.ensures c.put_stretch.ensures.put
           (λ u below own. stretch_cell g.T.Sample.number g.T.Sample.sample a.tile.size a.tile.width a.lines.count a.lines.stride a.lines.first.start a.lines.first.len r.lines.some r.lines.wide a.cells.now now from m most len so.put.others step c.min-len.ensures u below own);
     }
+
+pub put_stretch-requires-clause-sums : goal.put_stretch-requires-clause-sums
+put_stretch-requires-clause-sums g c = grind (arith, common_steps)
+
+pub returns : goal.returns
+returns g c = grind (arith, common_steps)

@@ -1,5 +1,6 @@
 -- All cells of the first pixel have their means.
 use Rattle.std.proofs.Common.{◌-◌, ◌*◌, min, length, arith}
+use Rattle.std.proofs.lemmas.Grind.{common_steps}
 use Rattle.image_means.specs.LineSums.{sums_cell}
 use Rattle.image_means.proofs.SumsOfTiles.{first_pixel, full_columns, one_mean_more}
 use Rattle.image_means.proofs.tile_sums.put_tile.Goals as goal
@@ -14,3 +15,6 @@ pub returns : goal.returns
 returns g c =
     let a = c.args in
     first_pixel (sums_cell g.C.Tally.tally g.T.Sample.sample a.tile.size a.tile.width a.lines a.sums.now) a.tile.size a.tile.width a.start (length a.sums.now) c.loop-c.c a.cells.now c.loop-c.cells c.requires.sums.some c.requires.sums.wide (omega (arith, c.requires.whole)) (omega (arith, c.loop-c-test.false, c.loop-c.auto.c-end, c.requires.pixel)) c.loop-c.invariant
+
+pub offset_bounds-cells-start : goal.offset_bounds-cells-start
+offset_bounds-cells-start g c = grind (arith, common_steps)

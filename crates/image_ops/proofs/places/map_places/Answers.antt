@@ -1,5 +1,6 @@
 -- The rows so far are answers, and nothing else has changed.
 use Rattle.std.proofs.Common.{◌<◌, ◌∙◌, sym, arith, rules}
+use Rattle.std.proofs.lemmas.Grind.{common_steps}
 use Rattle.image_model.specs.Rows.{row_count}
 use Rattle.image_shape.specs.Shape.{shaped}
 use Rattle.image_model.proofs.Mapped.{is_mapped_by_place}
@@ -30,3 +31,6 @@ returns-clause-answers g c = all_answered _ _ _ c.args.shape c.loop-y.y c.loop-y
 
 pub returns-clause-grid : goal.returns-clause-grid
 returns-clause-grid g c = is_mapped_by_place _ (shaped c.args.cells.now c.args.shape) (shaped c.loop-y.cells c.args.shape) c.requires.fits (search rules) (returns-clause-answers g c)
+
+pub offset_bounds-cells-range : goal.offset_bounds-cells-range
+offset_bounds-cells-range g c = grind (arith, common_steps)

@@ -1,6 +1,7 @@
 -- The rows so far are answers, and nothing else has changed.
 use Rattle.std.proofs.Common.{◌<◌, ◌∙◌, ap, sym, arith, rules}
 use Rattle.std.specs.List.{slice_get}
+use Rattle.std.proofs.lemmas.Grind.{common_steps}
 use Rattle.image_model.specs.Rows.{row_count}
 use Rattle.image_shape.specs.Shape.{shaped}
 use Rattle.image_model.proofs.ByPlace.{is_zipped}
@@ -34,3 +35,12 @@ returns-clause-answers g c = λ x j p q r column line was there is.
 pub returns-clause-grid : goal.returns-clause-grid
 returns-clause-grid g c =
     is_zipped _ (shaped c.args.cells.now c.args.shape) (shaped c.args.others.now c.args.other_shape) (shaped c.loop-y.cells c.args.shape) c.requires.fits c.requires.other_fits c.requires.same_width c.requires.same_height (search rules) (returns-clause-answers g c)
+
+pub offset_bounds-cells-range : goal.offset_bounds-cells-range
+offset_bounds-cells-range g c = grind (arith, common_steps)
+
+pub row-requires-clause-fits : goal.row-requires-clause-fits
+row-requires-clause-fits g c = grind (arith, common_steps)
+
+pub returns-clause-outside : goal.returns-clause-outside
+returns-clause-outside g c = grind (arith, common_steps)

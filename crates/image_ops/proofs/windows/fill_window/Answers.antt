@@ -1,5 +1,6 @@
 -- The image shows at the window what was written there.
-use Rattle.std.proofs.Common.{ap, ◌∙◌}
+use Rattle.std.proofs.Common.{ap, ◌∙◌, arith}
+use Rattle.std.proofs.lemmas.Grind.{common_steps}
 use Rattle.image_model.specs.Grid.{grid_of, patch, uniform}
 use Rattle.image_shape.specs.Shape.{shaped}
 use Rattle.image_writes.proofs.WindowWrites.{part_grid, part_outside}
@@ -13,3 +14,6 @@ returns-clause-grid g c =
 
 pub returns-clause-outside : goal.returns-clause-outside
 returns-clause-outside g c = part_outside _ _ _ _ _ _ c.exact_part.ensures.part c.fill_pixels.new.cells c.fill_pixels.ensures.outside
+
+pub offset_bounds-cells-part : goal.offset_bounds-cells-part
+offset_bounds-cells-part g c = grind (arith, common_steps)

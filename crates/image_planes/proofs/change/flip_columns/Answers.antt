@@ -1,6 +1,6 @@
 -- The window of all columns and rows is the whole.
 use Rattle.std.proofs.Common.{rules, ◌≡◌, ◌∙◌}
-use Rattle.imgref.specs.Shape.{shaped}
+use Rattle.image_shape.specs.Shape.{shaped}
 use Rattle.image_shape.specs.declared.window.Window.{Window}
 use Rattle.image_planes.proofs.Flips.{whole_mirrored}
 use Rattle.image_planes.proofs.change.flip_columns.Goals as goal

@@ -2,7 +2,7 @@
 use Rattle.std.proofs.Common.{◌≡◌, ◌/◌, ◌∙◌, ℕ, List, take, drop, length, ap, ap₂, sym, rules, ◌+◌}
 use Rattle.image_model.specs.Grid.{Grid, grid_of}
 use Rattle.image_model.specs.Layout.{SameOutside}
-use Rattle.imgref.specs.Shape.{shaped, shape_width, shape_height}
+use Rattle.image_shape.specs.Shape.{shaped, shape_width, shape_height}
 use Rattle.image_planes.specs.Changes.{are_inside, stepped}
 use Rattle.image_planes.specs.Scratch.{have_room}
 use Rattle.image_planes.specs.Spans.{are_spans, are_groups}

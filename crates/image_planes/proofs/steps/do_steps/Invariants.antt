@@ -1,7 +1,7 @@
 use Rattle.std.proofs.Common.{◌≡◌, drop}
 use Rattle.image_model.specs.Grid.{grid_of}
 use Rattle.image_model.specs.Layout.{SameOutside}
-use Rattle.imgref.specs.Shape.{shaped}
+use Rattle.image_shape.specs.Shape.{shaped}
 use Rattle.image_planes.specs.Changes.{stepped}
 use Rattle.image_planes.proofs.steps.do_steps.Given as goal
 

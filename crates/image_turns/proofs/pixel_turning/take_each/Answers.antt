@@ -3,6 +3,7 @@ use Rattle.std.proofs.Common.{◌≡◌, ℕ, suc, ◌+◌, ◌-◌, ◌*◌, �
 use Rattle.std.specs.List.{slice_get}
 use Rattle.std.proofs.Math.Nat.{suc-mul}
 use Rattle.std.proofs.lemmas.Nat.{mul-le}
+use Rattle.std.proofs.lemmas.Grind.{common_steps}
 use Rattle.image_model.proofs.Cells.{slice_get-take, slice_get-drop}
 use Rattle.image_turns.specs.Oriented.{source_cell}
 use Rattle.image_writes.proofs.Gathering.{GatheredTo, written}
@@ -61,3 +62,54 @@ loop-x-preserved g c =
     (λ j here.
     ap (λ xs. slice_get xs j) (c.write_part-in-loop-x.ensures ∙ c.read_part-pixel.ensures) ∙ slice_get-take (start + size - start) (drop start a.source.now) j (omega (arith, here)) ∙ slice_get-drop start a.source.now j)
     (λ j here. cell_of_pixel o.orientation size o.shape.stride o.columns o.shape.height a.part.left a.part.y x j here ∙ ap (λ n. n + j) (sym c.source_start-from.ensures.value)))
+
+pub write_part-requires : goal.write_part-requires
+write_part-requires g c = grind (arith, common_steps)
+
+pub read_part-pixels-requires : goal.read_part-pixels-requires
+read_part-pixels-requires g c = grind (arith, common_steps)
+
+pub write_part-requires-in-loop-x : goal.write_part-requires-in-loop-x
+write_part-requires-in-loop-x g c = grind (arith, common_steps)
+
+pub read_part-pixel-requires : goal.read_part-pixel-requires
+read_part-pixel-requires g c = grind (arith, common_steps)
+
+pub overflow_mul-x : goal.overflow_mul-x
+overflow_mul-x g c = grind (arith, common_steps)
+
+pub overflow_mul-k : goal.overflow_mul-k
+overflow_mul-k g c = grind (arith, common_steps)
+
+pub offset_bounds-cells-k : goal.offset_bounds-cells-k
+offset_bounds-cells-k g c = grind (arith, common_steps)
+
+pub overflow_mul-k-in-loop-k : goal.overflow_mul-k-in-loop-k
+overflow_mul-k-in-loop-k g c = grind (arith, common_steps)
+
+pub overflow_mul-x-in-loop-x : goal.overflow_mul-x-in-loop-x
+overflow_mul-x-in-loop-x g c = grind (arith, common_steps)
+
+pub returns-clause-taken : goal.returns-clause-taken
+returns-clause-taken g c = grind (arith, common_steps)
+
+pub offset_bounds-cells-x : goal.offset_bounds-cells-x
+offset_bounds-cells-x g c = grind (arith, common_steps)
+
+pub overflow_add-part : goal.overflow_add-part
+overflow_add-part g c = grind (arith, common_steps)
+
+pub loop-x-init : goal.loop-x-init
+loop-x-init g c = grind (arith, common_steps)
+
+pub overflow_add-k : goal.overflow_add-k
+overflow_add-k g c =
+    omega (arith, next_within c.loop-k.k c.args.part.count g.row.N (omega (arith, c.loop-k-test.true, c.followed_count-followed.ensures.few)), c.requires.narrow, c.requires.part.many)
+
+pub overflow_add-x : goal.overflow_add-x
+overflow_add-x g c =
+    omega (arith, this_within c.loop-x.x c.args.part.count g.row.N c.loop-x-test.true, c.requires.part.many)
+
+pub slice_bounds-write_part-end-in-loop-x : goal.slice_bounds-write_part-end-in-loop-x
+slice_bounds-write_part-end-in-loop-x g c =
+    omega (arith, this_within c.loop-x.x c.args.part.count g.row.N c.loop-x-test.true, c.requires.part.many, c.loop-x.invariant.as_many)

@@ -2,7 +2,7 @@
 use Rattle.std.proofs.Common.{◌*◌, ◌∙◌, ℕ, length, ap, ap₂, rules}
 use Rattle.image_planes.proofs.Parts.{dense_fits, plane_pixels}
 use Rattle.image_planes.proofs.Rooms.{room_for}
-use Rattle.imgref.specs.Shape.{shape_width}
+use Rattle.image_shape.specs.Shape.{shape_width}
 use Rattle.image_planes.specs.Scratch.{have_room}
 use Rattle.image_planes.proofs.plane.Plane.apply.Goals as goal
 

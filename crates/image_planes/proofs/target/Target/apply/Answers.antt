@@ -4,8 +4,8 @@ use Rattle.image_model.specs.Windows as model
 use Rattle.image_planes.proofs.Parts.{ends_whole, plane_numbers}
 use Rattle.image_planes.proofs.target.Target.apply.Goals as goal
 
-pub pad_image-requires-clause-whole : goal.pad_image-requires-clause-whole
-pad_image-requires-clause-whole c =
+pub pad_plane-requires-clause-whole : goal.pad_plane-requires-clause-whole
+pad_plane-requires-clause-whole c =
     let t = c.args.self.now in
     let n = plane_numbers t.size t.width t.height (search rules) in
     let place = c.new-place.result in

@@ -16,8 +16,8 @@ use Rattle.image_shape.specs.Window.{as_stretch}
 use Rattle.imgref.specs.Image.{mut_layout, shape_of}
 use Rattle.imgref.specs.declared.img.Img.{Img}
 use Rattle.imgref.proofs.ImageValues.{window_val, window_made, stretch_val, stretch_made, shape_val, shape_made, img_val, img_row, img_told, ImgParts, img_parts_told, Parts, parts_told, LentCells, lent_cells_laws}
-use Rattle.image_flips.specs.contracts.padded_stretch_mut as f
-use Rattle.image_flips.proofs.padded_stretch_mut.Met as found
+use Rattle.image_writes.specs.contracts.padded_stretch_mut as f
+use Rattle.image_writes.proofs.padded_stretch_mut.Met as found
 use Rattle.imgref.specs.contracts.img.Img.into_parts as parts
 use Rattle.imgref.proofs.img.Img.into_parts.Met as apart
 use Rattle.imgref.specs.contracts.window.Img+mut+slice+T.from_stretch as g
@@ -94,7 +94,7 @@ into_sub_image_mut_spec 𝓤 𝓛 𝓜 𝓡 wired T L =
     move ! (1 ∷ 0 ∷ []) $ join ! $ move ! (1 ∷ 0 ∷ []) $ join ! $
     use0 𝓛 (raw (fact 𝓤 Inside)) (fact_i 𝓤 Inside (emp 𝓤) inside) $ use0 𝓛 (raw (fact 𝓤 Holds)) (fact_i 𝓤 Holds (emp 𝓤) holds) $ join ! $ use0 𝓛 (raw (fact 𝓤 (κT ⊑ T.lives))) (fact_i 𝓤 (κT ⊑ T.lives) (emp 𝓤) le) $ join ! $
     move ! (1 ∷ 0 ∷ []) $ use2 𝓛 (raw (G.pre z₁)) (id⊢ 𝓤 _) $
-    calls_at ! fm G (found.met 𝓤 𝓛 𝓜 𝓡 (compiled.calls-image_flips::padded_stretch_mut 𝓡.env wired) T L) z₁ (and_then ! (get ! refl) (and_then ! (get ! refl) (and_then ! (get ! refl) (no_more !)))) (λ v.
+    calls_at ! fm G (found.met 𝓤 𝓛 𝓜 𝓡 (compiled.calls-image_writes::padded_stretch_mut 𝓡.env wired) T L) z₁ (and_then ! (get ! refl) (and_then ! (get ! refl) (and_then ! (get ! refl) (no_more !)))) (λ v.
     let Cells₁ : MutBor (List T.Denot) × Stretch × Shape → Type 0 = λ x. x.0 ≡ cells in
     let Room₁ : MutBor (List T.Denot) × Stretch × Shape → Type 0 = λ x. IsWithin (length xs) (as_stretch x.1) in
     let There : MutBor (List T.Denot) × Stretch × Shape → Type 0 = λ x. as_stretch x.1 ≡ padded_stretch (length xs) li.stride here in

@@ -1,4 +1,4 @@
-use Rattle.std.proofs.Common.{◌*◌, ◌-◌, ◌≤◌}
+use Rattle.std.proofs.Common.{◌-◌, ◌≤◌}
 use Rattle.row_mover.proofs.Compacting.{IsCompactedUpto}
 use Rattle.row_mover.proofs.mover.RowMover.join_long.Given as goal
 

@@ -1,0 +1,32 @@
+#!/usr/bin/env python3
+"""The times of calls from Python (bindings/python/tests/speed.py), by the package as pip installs it.
+
+It comes last, with nothing beside it.
+"""
+import os
+import pathlib
+import sys
+import tempfile
+
+from bindings import PYTHON, check_install, with_arrays
+from checking import ROOT, Cases
+from library import counted, run
+
+
+def main():
+    cases = Cases()
+    status, _, said = run(["make", "-s", "python"], cwd=ROOT)
+    cases.count("make python", status == 0, said)
+    with tempfile.TemporaryDirectory(prefix="times-") as room:
+        room, quiet = pathlib.Path(room), os.environ | {"PYTHONDONTWRITEBYTECODE": "1"}
+        if status or run([with_arrays(), "-m", "venv", "--system-site-packages", room / "venv"])[0]:
+            cases.skip("the times of calls from Python", "python3-venv")
+        else:
+            python = check_install(cases, room / "venv", next((ROOT / "out/python").glob("imgref-*.whl")), quiet)
+            status, _, said = run([python, "speed.py"], cwd=PYTHON / "tests", env=quiet)
+            counted(cases, "Python: speed", said, status)
+    return cases.end()
+
+
+if __name__ == "__main__":
+    sys.exit(main())

@@ -1,0 +1,11 @@
+pub mod Alike
+pub mod Fault
+pub mod Kept
+pub mod Limit
+pub mod Passing
+pub mod Pictures
+pub mod Program
+pub mod Request
+pub mod Seen
+pub mod Stream
+pub mod Video

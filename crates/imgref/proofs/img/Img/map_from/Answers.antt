@@ -1,0 +1,6 @@
+-- The old pixels don't matter.
+use Rattle.imgref.proofs.Ignored.{other_alone}
+use Rattle.imgref.proofs.img.Img.map_from.Goals as goal
+
+pub returns-clause-grid : goal.returns-clause-grid
+returns-clause-grid g c = other_alone _ _ _ _ c.requires.fits c.requires.source_fits c.requires.same_width c.requires.same_height c.zip_pixels.ensures.grid
