@@ -4,7 +4,7 @@
 A list that is written is read by imgref_frames too, and covers what the strict lines of the case say.
 """
 import pathlib
-import resource
+import pstats
 import subprocess
 import sys
 import tempfile
@@ -139,22 +139,22 @@ def by_hand(cases):
     cases.count("the number of frames goes along", done.stdout == b"# frames 3\n1,7,10,20,30,40\n", str(done))
 
 
-def seconds(words):
-    """The processor time of a script of Python's."""
-    before = resource.getrusage(resource.RUSAGE_CHILDREN).ru_utime
-    subprocess.run([sys.executable, *words], check=True, capture_output=True, timeout=300)
-    return resource.getrusage(resource.RUSAGE_CHILDREN).ru_utime - before
+def calls(words):
+    """How many calls a script of Python's makes: the same number each time, whatever else the machine does."""
+    with tempfile.TemporaryDirectory() as folder:
+        told = pathlib.Path(folder, "profile")
+        subprocess.run([sys.executable, "-m", "cProfile", "-o", told, *words], check=True, capture_output=True, timeout=300)
+        return pstats.Stats(str(told)).total_calls
 
 
-def by_time(cases):
-    """A list of 20,000 lines takes less time than its numbers take alone as fractions of Python's."""
+def by_calls(cases):
+    """A list of 20,000 lines takes at most 100 calls a line: with fractions of Python's it took 500."""
     lines = [f"{at // 4 + 1},{at % 4},{at % 1000}.25,{at % 500}.5,{at % 1000 + 30}.75,{at % 500 + 40}.125" for at in range(20000)]
     with tempfile.TemporaryDirectory() as folder:
         name = pathlib.Path(folder, "list.txt")
         name.write_text(HEADER + "\n".join(lines) + "\n")
-        ours = seconds([ROOT / "examples/boxes.py", name])
-        theirs = seconds(["-c", f"from fractions import Fraction\nfor line in list(open({str(name)!r}))[1:]:\n    for it in line.split(','):\n        Fraction(it)"])
-    cases.count("20,000 lines take less time than their numbers take as fractions", ours < theirs, f"{ours:.2f} s, and {theirs:.2f} s")
+        made = calls([ROOT / "examples/boxes.py", name])
+    cases.count("20,000 lines take at most 100 calls each", made <= 100 * len(lines), f"{made / len(lines):.0f} calls a line")
 
 
 def by_program(cases, program):
@@ -172,7 +172,7 @@ def by_program(cases, program):
 def main():
     cases = Cases()
     by_hand(cases)
-    by_time(cases)
+    by_calls(cases)
     for program in both_builds(cases, "imgref_frames")[:1]:
         by_program(cases, program)
     return cases.end()
