@@ -5,7 +5,6 @@
 //! exports for pixels of one byte and of four are in the files of those names.
 #![tactic(auto)]
 
-mod blur;
 mod reading;
 mod u32_exports;
 mod u8_exports;
