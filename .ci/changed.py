@@ -263,7 +263,10 @@ class Changes:
 def last_landed():
     """The commit that had landed last, and whether the kit here has the logic that proved it. Exits where that is no ancestor of this
     commit."""
-    commit, logic = LANDED.read_text(encoding="utf-8").split()
+    words = LANDED.read_text(encoding="utf-8").split()
+    if len(words) != 2:
+        raise SystemExit(f"{LANDED.relative_to(ROOT)} has two words: the commit that landed last, and the last word of `rt version`")
+    commit, logic = words
     # (where the history lacks it, all bugs are tried)
     if git("cat-file", "-e", f"{commit}^{{commit}}") is not None and git("merge-base", "--is-ancestor", commit, "HEAD") is None:
         raise SystemExit(f"{LANDED.relative_to(ROOT)} names {commit}, which this commit doesn't follow: write there the last one that had landed when the work began")

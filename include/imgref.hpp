@@ -650,13 +650,16 @@ public:
         std::copy(found, found + N, made.begin());
         return made;
     }
-    // It becomes `colour`.
+    // It becomes `colour`, in braces or as `get` returns one.
     template <std::size_t M> void put(std::size_t x, std::size_t y, const element (&colour)[M]) const { std::copy(whole_colour(colour), colour + N, at(x, y)); }
+    template <class C, class = std::enable_if_t<std::is_same_v<C, value_type>>> void put(std::size_t x, std::size_t y, const C &colour) const { std::copy(colour.begin(), colour.end(), at(x, y)); }
 
     // Every colour of the window becomes `colour`. For all the window is whole().
     template <std::size_t M> void fill(const rect &window, const element (&colour)[M]) const { elements_.fill_pixels(window, whole_colour(colour)); }
+    template <class C, class = std::enable_if_t<std::is_same_v<C, value_type>>> void fill(const rect &window, const C &colour) const { elements_.fill_pixels(window, plain(colour).elements); }
     // How many colours of the window are `colour`.
     template <std::size_t M> std::size_t count(const rect &window, const element (&colour)[M]) const { return elements_.count_pixels(window, whole_colour(colour)); }
+    template <class C, class = std::enable_if_t<std::is_same_v<C, value_type>>> std::size_t count(const rect &window, const C &colour) const { return elements_.count_pixels(window, plain(colour).elements); }
 
     // The calls of a view, as they are there.
     void copy(const rect &window, const colour_view<const element, N> &source) const { elements_.copy(in_elements(window), source.elements_); }
@@ -681,6 +684,12 @@ public:
     tile_range tiles(std::size_t tile_width, std::size_t tile_height) const { return {width(), height(), tile_width, tile_height}; }
 
 private:
+    // A colour as the calls of a view take it.
+    struct plain {
+        explicit plain(const value_type &colour) noexcept { std::copy(colour.begin(), colour.end(), elements); }
+        element elements[N];
+    };
+
     // (an array of N would take fewer elements in braces too, and zeros for the others)
     template <std::size_t M> static const element (&whole_colour(const element (&colour)[M]) noexcept)[M] {
         static_assert(M == N, "a colour has as many elements as the view has channels");

@@ -169,6 +169,12 @@ static void views_of_colours() {
     image.put(0, 1, {20, 21, 22});
     image.fill({1, 0, 1, 2}, {30, 31, 32});
     check("colours: put, fill, count", bytes == cells{1, 2, 3, 30, 31, 32, 90, 20, 21, 22, 30, 31, 32, 91} && image.count(image.whole(), {30, 31, 32}) == 2);
+    const auto seen = image.get(1, 0);
+    image.put(0, 0, image.get(0, 1));
+    image.fill({0, 1, 1, 1}, seen);
+    check("colours: what get returns is a colour", bytes == cells{20, 21, 22, 30, 31, 32, 90, 30, 31, 32, 30, 31, 32, 91} && image.count(image.whole(), image.get(1, 1)) == 3);
+    image.put(0, 0, {1, 2, 3});
+    image.put(0, 1, {20, 21, 22});
     image.window({1, 1, 1, 1}).fill({0, 0, 1, 1}, {40, 41, 42});
     image.move({1, 1, 1, 1}, {0, 0, 1, 1});
     check("colours: window, move", bytes == cells{40, 41, 42, 30, 31, 32, 90, 20, 21, 22, 40, 41, 42, 91});

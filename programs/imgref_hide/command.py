@@ -18,7 +18,8 @@ Beside out.mp4 come out.sheet.png, a picture of what was covered: look at it, si
 what was found; and out.covers.csv, what was covered in each frame. What fails leaves none of them.
 The guide is HIDE.md in share/doc/imgref, /usr/share/doc/imgref-tools, or docs of the sources.
 """
-MORE = """The status is 0 where all was hidden, 1 where something failed, and 2 for wrong words. After a signal it is 128 and its number.
+MORE = """The status is 0 where the output is written, 1 where something failed, and 2 for wrong words. A missed face doesn't change it. After
+a signal it is 128 and its number.
 What is covered is done by imgref_frames, whose output is proved to reveal nothing of it. No proof knows of a face that was missed.
 """
 

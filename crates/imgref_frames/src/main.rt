@@ -72,7 +72,7 @@ OPTION:
        --frames N        another number of frames is a fault, known at the end; a list may
                          say it itself, by a line # frames N
        --strict          what else is a note is a fault: a range that the input doesn't reach,
-                         a cover that covers nothing, and a cover that comes too late
+                         a cover that covers nothing, and an edit that comes too late
        --limit BYTES     how many bytes all buffers may have: 1073741824 without it
        --help, -h        prints this
        --version         prints the version
