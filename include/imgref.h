@@ -42,9 +42,9 @@
 
 /* The version of this header, in three numbers and as a text. */
 #define IMGREF_VERSION_MAJOR 0
-#define IMGREF_VERSION_MINOR 4
+#define IMGREF_VERSION_MINOR 5
 #define IMGREF_VERSION_PATCH 0
-#define IMGREF_VERSION "0.4.0"
+#define IMGREF_VERSION "0.5.0"
 
 #ifdef __cplusplus
 extern "C" {

@@ -26,7 +26,7 @@ FORMS = {
     "bindings/python/imgref/__init__.py": [(r'(__version__ = ")[^"]*(")', VERSION)],
     "bindings/rust/Cargo.toml": [(r'(?m)(^version = ")[^"]*(")', VERSION)],
     "crates/imgref_frames/src/main.rt": [(r'(VERSION: &str = "imgref_frames )[^"]*(")', VERSION)],
-    "docs/C.md": [(r"(find_package\(imgref )\S+( REQUIRED\))", f"{MAJOR}.{MINOR}")],
+    **{page: [(r"(find_package\(imgref )\S+( REQUIRED\))", f"{MAJOR}.{MINOR}")] for page in ("docs/C.md", "docs/CPP.md")},
 }
 MAN = r'(?m)(^\.TH \S+ \d )\S+ "imgref [^"]*(")'
 

@@ -25,7 +25,7 @@ from ._image import Image
 from ._regions import bounding_box, components, equalize, flood_fill, histogram, integral
 from ._types import Buffer, Corners, Number, Pixel, Refused, Window
 
-__version__ = "0.4.0"
+__version__ = "0.5.0"
 __all__ = ["Buffer", "Corners", "Image", "Number", "Pixel", "Refused", "Window", "bounding_box", "components", "equalize", "flood_fill", "histogram", "integral", "__version__"]
 
 # (a user knows these by the package's name)

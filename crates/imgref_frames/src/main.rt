@@ -80,7 +80,7 @@ Cover first: a move, a mosaic, means or a blur before a cover may show what it c
 The guide is FRAMES.md in share/doc/imgref, /usr/share/doc/imgref-tools, or docs of the sources.";
 
 // The version of the program and of the library.
-const VERSION: &str = "imgref_frames 0.4.0";
+const VERSION: &str = "imgref_frames 0.5.0";
 
 // No files of edits.
 const NO_TEXTS: Texts<'static> = Texts {
