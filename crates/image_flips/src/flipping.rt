@@ -44,7 +44,7 @@ pub fn copy_back<T: Copy>(cells: &mut [T], source: &[T])
 // The `N` cells after the first `done` change places with those before the last `done`, the first
 // with the last. All are read before one is written: so the two blocks may overlap, and the
 // compiler makes vector code of them.
-fn cross_blocks<T: Copy, const N: usize>(row: &mut [T], done: usize)
+fn exchange_blocks<T: Copy, const N: usize>(row: &mut [T], done: usize)
     requires some { 0 < N }
     requires inside { 2 * done + N ≤ length row.old }
     ensures as_many { length row.new ≡ length row.old }
@@ -70,13 +70,13 @@ fn reverse_middle<T: Copy>(row: &mut [T], done: usize)
 {
     let left = row.len() - 2 * done;
     if left >= 16 {
-        cross_blocks::<T, 16>(row, done);
+        exchange_blocks::<T, 16>(row, done);
     } else if left >= 8 {
-        cross_blocks::<T, 8>(row, done);
+        exchange_blocks::<T, 8>(row, done);
     } else if left >= 4 {
-        cross_blocks::<T, 4>(row, done);
+        exchange_blocks::<T, 4>(row, done);
     } else if left >= 2 {
-        cross_blocks::<T, 2>(row, done);
+        exchange_blocks::<T, 2>(row, done);
     }
 }
 
@@ -103,7 +103,7 @@ fn reverse_row<T: Copy, const FEW: bool>(row: &mut [T])
     }
     let blocks = row.len() / 32;
     for block in 0..blocks {
-        cross_blocks::<T, 16>(row, 16 * block);
+        exchange_blocks::<T, 16>(row, 16 * block);
     }
     if row.len() % 32 >= 2 {
         reverse_middle(row, 16 * blocks);

@@ -87,7 +87,7 @@ fn reverse_pixels<T: Copy, const N: usize, const BLOCKS: bool>(
 }
 
 // In each row the first pixel changes places with the last, and so on.
-fn reverse_rows<T: Copy, const N: usize, const BLOCKS: bool>(
+fn reverse_pixel_rows<T: Copy, const N: usize, const BLOCKS: bool>(
     cells: &mut [T],
     shape: Shape,
     size: usize,
@@ -123,13 +123,13 @@ pub fn mirror_pixels<T: Copy>(cells: &mut [T], shape: Shape, size: usize, column
 {
     match size {
         1 => flip_columns(cells, shape),
-        2 => reverse_rows::<T, 2, false>(cells, shape, size, columns),
+        2 => reverse_pixel_rows::<T, 2, false>(cells, shape, size, columns),
         3 if triples_pay(cells, columns) => {
-            reverse_rows::<T, 3, true>(cells, shape, size, columns);
+            reverse_pixel_rows::<T, 3, true>(cells, shape, size, columns);
         }
-        3 => reverse_rows::<T, 3, false>(cells, shape, size, columns),
-        4 => reverse_rows::<T, 4, false>(cells, shape, size, columns),
-        _ => reverse_rows::<T, 0, false>(cells, shape, size, columns),
+        3 => reverse_pixel_rows::<T, 3, false>(cells, shape, size, columns),
+        4 => reverse_pixel_rows::<T, 4, false>(cells, shape, size, columns),
+        _ => reverse_pixel_rows::<T, 0, false>(cells, shape, size, columns),
     }
 }
 

@@ -71,7 +71,7 @@ fn cross_triples<T: Copy, const W: usize>(row: &mut [T], done: usize)
 
 // Of fewer than 32 pixels between the first `done` cells and the last `done` the first changes places
 // with the last, and so on.
-fn reverse_middle<T: Copy>(row: &mut [T], done: usize)
+fn reverse_middle_triples<T: Copy>(row: &mut [T], done: usize)
     requires pixels { length row.old % 3 ≡ 0 }
     requires begun { done % 3 ≡ 0 }
     requires inside { 2 * done ≤ length row.old }
@@ -102,7 +102,7 @@ pub(crate) fn reverse_triples<T: Copy>(row: &mut [T])
     for block in 0..blocks {
         cross_triples::<T, 48>(row, 48 * block);
     }
-    reverse_middle(row, 48 * blocks);
+    reverse_middle_triples(row, 48 * blocks);
 }
 
 /// Each pixel of three cells becomes one of the source, which is as long, from its last one on.

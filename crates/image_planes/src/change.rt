@@ -125,7 +125,7 @@ pub(crate) fn is_blur(change: Change<Value>) -> bool
 }
 
 // The number of samples of so many bytes.
-fn count_samples(bytes: SampleBytes, width: usize) -> usize
+fn samples_across(bytes: SampleBytes, width: usize) -> usize
     requires whole { width % sample_cells bytes ≡ 0 }
     ensures samples { result * sample_cells bytes ≡ width }
     ensures within { result ≤ width }
@@ -161,7 +161,7 @@ fn blur_cells(
 {
     let part = in_bytes(shape, size, window);
     let bytes = bytes_for(size, bytes);
-    let count = count_samples(bytes, part.width);
+    let count = samples_across(bytes, part.width);
     let sums = &mut sums[..count];
     blur_samples(bytes, cells, shape, part, size, across, down, copy, sums);
 }

@@ -5,8 +5,8 @@ use Rattle.std.proofs.Math.Nat.{mul-mod_left, mul-mod_right, zero-mul}
 use Rattle.image_means.specs.Means.{sample_cells}
 use Rattle.image_planes.proofs.change.blur_cells.Goals as goal
 
-pub count_samples-count-requires : goal.count_samples-count-requires
-count_samples-count-requires c =
+pub samples_across-count-requires : goal.samples_across-count-requires
+samples_across-count-requires c =
     let columns : ℕ = c.args.window.width in
     let cells : ℕ = sample_cells c.bytes_for-bytes.result in
     record {

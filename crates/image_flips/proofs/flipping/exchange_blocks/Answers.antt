@@ -3,7 +3,7 @@ use Rattle.std.proofs.Common.{◌≡◌, ℕ, ◌+◌, ◌-◌, List, length, ta
 use Rattle.std.proofs.lemmas.List.{length-replicate}
 use Rattle.image_writes.specs.Gathered.{AreGathered, mirrored_place}
 use Rattle.image_flips.proofs.Crossing.{HasStretch, gathered_stretch, blocks_crossed, mirrored_front, mirrored_rear, mirrored_stays}
-use Rattle.image_flips.proofs.flipping.cross_blocks.Goals as goal
+use Rattle.image_flips.proofs.flipping.exchange_blocks.Goals as goal
 
 -- a block that was copied from the last cell of a stretch on
 turned : {T : Type 0} {old copied block : List T} (start n many : ℕ) → many ≡ n → length copied ≡ many → AreGathered (λ k. many - 1 - k) (take (start + n - start) (drop start old)) copied → block ≡ copied → HasStretch (λ j. n - 1 - j) old start n block

@@ -7,7 +7,7 @@ use Rattle.image_flips.proofs.Crossing.{row_from, from_rows}
 use Rattle.image_writes.proofs.PixelsOfRows.{pixels_of_row}
 use Rattle.image_flips.proofs.PixelFlips.{reversed_place, reversed_within}
 use Rattle.image_writes.proofs.RowsWritten.{row_range, row_written, shows_table, outside_stays}
-use Rattle.image_flips.proofs.pixel_flips.reverse_rows.Goals as goal
+use Rattle.image_flips.proofs.pixel_flips.reverse_pixel_rows.Goals as goal
 
 pub loop-y-preserved : goal.loop-y-preserved
 loop-y-preserved g c =
