@@ -20,7 +20,7 @@ import time
 
 sys.path.insert(0, str(pathlib.Path(__file__).resolve().parents[2]))
 from checking import ROOT, Cases, both_builds
-from hiding import ENTRY, FRAMES, Place, all_of, children, ffmpeg, is_hidden, left, video
+from hiding import ENTRY, FRAMES, Place, all_of, children, encoded, ffmpeg, is_hidden, left
 
 RECIPE = re.compile(r"(?m)^    (find in .*parallel .*--sshloginfile.*)$")
 # A picture by Dask may take so many seconds.
@@ -316,7 +316,7 @@ def main():
         # (a host that is killed may still write while its folder is removed)
         with tempfile.TemporaryDirectory(ignore_cleanup_errors=True) as folder:
             place = Place(folder, program)
-            video(folder, "in.mp4")
+            encoded(folder, "in.mp4")
             all_of(cases, [lambda it=it: it(cases, place) for it in (by_hosts, by_dask, by_zarr, by_folder, by_signal)])
     return cases.end()
 

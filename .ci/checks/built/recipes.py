@@ -22,6 +22,7 @@ from fractions import Fraction
 
 sys.path.insert(0, str(pathlib.Path(__file__).resolve().parents[2]))
 from checking import ROOT, Cases, both_builds
+from tries import grey
 
 WIDTH, HEIGHT, FRAMES, RATE = 192, 128, 180, 30
 FACE, BRIGHT, DARK, BACK = 24, 235, 30, 90
@@ -115,14 +116,14 @@ def corner(number):
 
 
 def picture(number):
-    """A frame of the source: the face, and its number below."""
+    """The brightness of a frame of the source: the face, and its number below."""
     plane, (left, top) = bytearray([BACK]) * (WIDTH * HEIGHT), corner(number)
     for y in range(top, top + FACE):
         plane[y * WIDTH + left:y * WIDTH + left + FACE] = bytes([BRIGHT]) * FACE
     for bit in (it for it in range(8) if number >> it & 1):
         for y in range(BLOCKS, HEIGHT):
             plane[y * WIDTH + FACE * bit:y * WIDTH + FACE * (bit + 1)] = bytes([DARK]) * FACE
-    return b"FRAME\n" + plane + bytes([128]) * (WIDTH * HEIGHT // 2)
+    return plane
 
 
 def ffmpeg(folder, words):
@@ -132,8 +133,7 @@ def ffmpeg(folder, words):
 
 def made_files(folder):
     """The six kinds of files, by what is special about them."""
-    line = f"YUV4MPEG2 W{WIDTH} H{HEIGHT} F{RATE}:1 Ip A1:1 C420jpeg\n".encode()
-    pathlib.Path(folder, "source.y4m").write_bytes(line + b"".join(picture(it) for it in range(FRAMES)))
+    pathlib.Path(folder, "source.y4m").write_bytes(grey(WIDTH, HEIGHT, map(picture, range(FRAMES)), rate=f"{RATE}:1"))
     sound, coded = "-f lavfi -i sine=duration={}", "-c:v libx264 -crf 12 -pix_fmt yuv420p -c:a aac"
     ffmpeg(folder, f"-i source.y4m {sound.format(6)} {coded} -g 30 plain.mp4")
     ffmpeg(folder, f"-i source.y4m {sound.format(4)} -vf trim=end_frame=90,setpts='if(lt(N,60),N/30,2+(N-60)/15)/TB' -vsync passthrough {coded} half.mp4")
