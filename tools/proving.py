@@ -171,6 +171,15 @@ def run(command, at, hear):
     return part.returncode
 
 
+def said_with(name, texts, words=()):
+    """What `rt check` with these words says of a crate, and its status: with these texts in the place of files, as `room` takes them, and
+    over a copy of the cached proofs."""
+    lines = []
+    with room(name, texts) as made:
+        status = run(["rt", "check", "--jobs", "1", *words], made, lines.append)
+    return "".join(lines).rstrip("\n").split("\n"), status
+
+
 def command_of(name):
     """The command that proves a crate, and builds what it makes. (A program is run too: with this word each ends well.)"""
     return ["rt", "run", "--", "--help"] if is_program(name) else ["rt", "lib"]

@@ -56,9 +56,7 @@ def counts_with(crate, job, texts):
     """What a job takes with the body, or nothing where it is not proved; and what was said then."""
     program, words = jobs()[job]
     lines = []
-    with room(program, changes_below=True) as made:
-        for file, text in texts.items():
-            (made.parent / crate / file).write_text(text, encoding="utf-8")
+    with room(program, {f"{crate}/{file}": text for file, text in texts.items()}) as made:
         if run(command_of(program), made, lines.append):
             return None, "".join(lines[-20:])
         return counted(made / "out" / program, job, words), ""
