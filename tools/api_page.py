@@ -11,13 +11,12 @@ its signature, its `///` lines and all its clauses. Each word of a clause is a l
 import collections
 import dataclasses
 import functools
-import itertools
 import os
 import pathlib
 import re
 import sys
 
-from items import Item, read, words_of
+from items import Item, read, subject, words_of
 from workspace import ROOT, crates
 
 # The crates of each page, what it is called, and how it begins.
@@ -179,22 +178,6 @@ def home(name, crate):
 
 
 # ---- blocks of code
-
-
-def subject(block):
-    """The type that a block is for, and the trait, if it is the block of one."""
-    text = " ".join(it.strip() for it in block.head).removeprefix("impl")
-    if text.startswith("<"):
-        depths = list(itertools.accumulate({"<": 1, ">": -1}.get(it, 0) for it in text.replace("->", "- ")))
-        text = text[depths.index(0) + 1 :]
-    trait, _, of = text.strip().partition(" for ")
-    return type_name(of or trait), type_name(trait) if of else None
-
-
-def type_name(text):
-    """The name of a type without what it is made of, or all of it where it has no name of its own."""
-    named = re.match(r"(?:\w+::)*(\w+)", text)
-    return named[1] if named else text
 
 
 def code(lines):
