@@ -13,7 +13,8 @@ FILL = "fill 4,2,6,4 126"
 
 def y4m(sampling, width, height, frames, parameters=(b"",), fields=b"Ip", rate="25:1"):
     """A video with the cells of each of these frames, which have these parameters in turn. Without a rate its line names none."""
-    line = f"YUV4MPEG2 W{width} H{height} {'' if rate is None else f'F{rate} '}".encode() + fields + f" A1:1 C{sampling} XLABEL=a\n".encode()
+    rated = "" if rate is None else f" F{rate}"
+    line = f"YUV4MPEG2 W{width} H{height}{rated} ".encode() + fields + f" A1:1 C{sampling} XLABEL=a\n".encode()
     return line + b"".join(b"FRAME" + parameters[at % len(parameters)] + b"\n" + cells for at, cells in enumerate(frames))
 
 

@@ -8,8 +8,7 @@ A row of NUMBERS, and of FIGURES in figures.py, has the pages, how a page says s
 a constant of a source, or a table. One of the pages says so. How many functions are proved is known only to a run of
 the gate. So README.md says 'More than N', and N is no more than the functions with a contract that the sources have: the gate
 proves each of them. A page says of a command how many minutes it takes, and what `.ci/gate.py` prints for it lies within. In a
-table of examples, a proof file has as many lines as the page says. docs/ARCHITECTURE.md names each crate, each one above those
-that it depends on. (A script named `numbers` would hide a module of Python.)
+table of examples, a proof file has as many lines as the page says. (A script named `numbers` would hide a module of Python.)
 """
 import pathlib
 import re
@@ -155,23 +154,12 @@ def proof_lines(cases):
                 cases.count(f"{page.name}: {names.strip()}: an {kind} of {lines} lines", int(lines) in found, f"  there are {found}")
 
 
-def layers(cases):
-    """docs/ARCHITECTURE.md names each crate, and in its first table a crate depends only on those of later rows."""
-    text = (ROOT / "docs/ARCHITECTURE.md").read_text()
-    missing = [it for it in crates() if f"`{it}`" not in text]
-    cases.count("docs/ARCHITECTURE.md names each crate", not missing, f"  not named: {missing}")
-    rows = re.findall(r"(?m)^\| `(\w+)`", re.search(r"(?ms)^\| Crate .*?^$", text)[0])
-    wrong = [(it, below) for at, it in enumerate(rows) for below in crates()[it] if below not in rows[at + 1 :]]
-    cases.count(f"docs/ARCHITECTURE.md: the order of {len(rows)} crates", rows and not wrong, f"  not in later rows: {wrong}")
-
-
 def main():
     cases = Cases()
     are_fresh(cases)
     proved(cases)
     minutes(cases)
     proof_lines(cases)
-    layers(cases)
     return cases.end()
 
 
