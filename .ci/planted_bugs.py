@@ -220,7 +220,7 @@ def main():
             bugs = for_landing(bugs)
         checks = [(name, batch) for name, found in bugs.items() for batch in batches(found)]
         if asked.list:
-            print(*(f"{name}: {', '.join(it.path.stem + ('' if it.is_copied else ' (in place)') for it in batch)}" for name, batch in checks), sep="\n")
+            print(*(f"{name}: {', '.join(it.path.stem + ('' if it.is_copied else ' (in place)') for it in batch)}" for name, batch in checks), sep="\n", flush=True)
             return 0
         said = prove_changed([*bugs], Progress(*weights_of(all_below([*bugs]))))
         if said is not None:

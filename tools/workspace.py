@@ -29,7 +29,12 @@ def fill_streams():
 
 
 def tell(kind, why, trace):
-    """Says in one line what this machine lacks where that ends a tool: a checkout that can be written into, or a program."""
+    """Says in one line what this machine lacks where that ends a tool: a checkout that can be written into, or a program. Where nobody reads
+    what a tool prints, as after `| head`, it says nothing."""
+    if isinstance(why, BrokenPipeError):
+        # (what is left to print goes nowhere)
+        os.dup2(os.open(os.devnull, os.O_WRONLY), sys.stdout.fileno())
+        return
     name = str(getattr(why, "filename", None) or "")
     if isinstance(why, OSError) and why.errno in (errno.EROFS, errno.EACCES) and name.startswith(str(ROOT)):
         print(f"this needs a checkout that it can write into: {why}", file=sys.stderr)
