@@ -3,13 +3,10 @@ import concurrent.futures
 import contextlib
 import os
 import pathlib
-import re
 import shutil
 import signal
 import subprocess
 import sys
-import tempfile
-import time
 
 from checking import ROOT
 

@@ -11,7 +11,6 @@ from c_library import ABI, command
 from packing import Link, laid_out, squeezed
 from processes import run_to_end
 from version import VERSION
-from workspace import ROOT
 
 MAINTAINER = "Boyhagut maintainers <maintainers@users.noreply.boyhagut.example>"
 SOURCE = "imgref"

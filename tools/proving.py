@@ -8,11 +8,10 @@ import dataclasses
 import os
 import re
 import subprocess
-import threading
 import time
 
 from processes import started
-from workspace import ROOT, crates, is_fresh, is_library, is_program, keep, own_sources, product, proved_once, room, with_those_below
+from workspace import crates, is_fresh, is_program, keep, own_sources, product, proved_once, room, with_those_below
 
 # What the prover says of how far it is in a crate.
 SO_FAR = re.compile(r"so far: (\d+) of (\d+) functions checked")

@@ -12,11 +12,12 @@ import functools
 import pathlib
 import re
 import shutil
-import subprocess
 import sys
 
 sys.path.insert(0, str(pathlib.Path(__file__).resolve().parents[1]))
 from checking import ROOT, Cases
+
+from changed import git
 from workspace import with_those_below
 
 # The pages with figures, and the crates that are timed there, with those below them.
@@ -127,18 +128,11 @@ SLOWEST = {
 }
 
 
-def git(*words):
-    """The output of a command of git here, or nothing where it fails."""
-    if not shutil.which("git"):
-        return None
-    ran = subprocess.run(["git", "-C", ROOT, *words], capture_output=True, text=True)
-    return ran.stdout.strip() if ran.returncode == 0 else None
-
-
 def ages(cases):
     """The commit of each page, and how many have changed the timed crates since."""
-    if git("rev-parse", "--is-shallow-repository") != "false":
-        cases.skip("the commits of figures", "history" if shutil.which("git") else "git", number=len(PAGES))
+    has_git = bool(shutil.which("git"))
+    if not has_git or git("rev-parse", "--is-shallow-repository") != "false\n":
+        cases.skip("the commits of figures", "history" if has_git else "git", number=len(PAGES))
         cases.count("the pages with figures are there", all((ROOT / it).is_file() for it in PAGES))
         return
     for page, timed in PAGES.items():
@@ -148,7 +142,7 @@ def ages(cases):
             is_here = git("merge-base", "--is-ancestor", commit, "HEAD") is not None
             cases.count(f"{page}: {commit} is a commit of this history", is_here)
             sources = sorted({f"crates/{it}/src" for name in timed for it in with_those_below(name)})
-            since = git("rev-list", "--count", f"{commit}..HEAD", "--", *sources) if is_here else "an unknown number of"
+            since = git("rev-list", "--count", f"{commit}..HEAD", "--", *sources).strip() if is_here else "an unknown number of"
             print(f"{page}: {since} commits have changed the timed crates since {commit}")
 
 

@@ -7,13 +7,13 @@ examples/review.py shows the covers, and examples/hide_faces.py does all of it f
 """
 import os
 import pathlib
-import shutil
 import subprocess
 import sys
 import tempfile
 
 sys.path.insert(0, str(pathlib.Path(__file__).resolve().parents[2]))
 from checking import ROOT, Cases, both_builds
+from needs import python_with
 from tries import SAMPLINGS, grey, video
 
 WIDTH, HEIGHT, FRAMES = 320, 240, 24
@@ -85,13 +85,6 @@ def planes(made):
         found.append(made[at + 6 : at + 6 + size])
         at += 6 + size * 3 // 2
     return found
-
-
-def python_with(module):
-    for python in ("python3", "/usr/bin/python3"):
-        if shutil.which(python) and subprocess.run([python, "-c", f"import {module}"], capture_output=True).returncode == 0:
-            return python
-    return None
 
 
 def uncovered(made, shown):

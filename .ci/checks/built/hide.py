@@ -19,7 +19,7 @@ import time
 
 sys.path.insert(0, str(pathlib.Path(__file__).resolve().parents[2]))
 from checking import ROOT, Cases, both_builds
-from hiding import DETECTOR, ENTRY, FRAMES, HEIGHT, SQUARE, WIDTH, Place, all_of, bared, black, children, encoded, ffmpeg, frames_of, is_hidden, left
+from hiding import FRAMES, HEIGHT, SQUARE, WIDTH, Place, all_of, bared, black, children, encoded, ffmpeg, frames_of, is_hidden, left
 
 # A FaceDetectorYN that finds what is white, under the names of OpenCV. It fails where the picture isn't grey and white.
 MODEL = """

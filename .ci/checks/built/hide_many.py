@@ -20,7 +20,8 @@ import time
 
 sys.path.insert(0, str(pathlib.Path(__file__).resolve().parents[2]))
 from checking import ROOT, Cases, both_builds
-from hiding import ENTRY, FRAMES, Place, all_of, children, encoded, ffmpeg, is_hidden, left
+from hiding import FRAMES, Place, all_of, children, encoded, ffmpeg, is_hidden
+from needs import python_with
 
 RECIPE = re.compile(r"(?m)^    (find in .*parallel .*--sshloginfile.*)$")
 # A picture by Dask may take so many seconds.
@@ -175,13 +176,6 @@ def by_hosts(cases, place):
     finally:
         for it in hosts:
             it.kill()
-
-
-def python_with(modules):
-    for it in dict.fromkeys((sys.executable, "/usr/bin/python3")):
-        if subprocess.run([it, "-c", f"import {modules}"], capture_output=True).returncode == 0:
-            return it
-    return None
 
 
 # What makes in.npy, a picture of one run, and how many pixels of another one differ from those of out.pgm.

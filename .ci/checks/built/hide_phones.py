@@ -6,7 +6,6 @@ Each kind is made by ffmpeg: turned by metadata, with a varying rate, cut by an 
 the decoded output. The kinds with odd times are those of recipes.py, whose frames have their number in them.
 """
 import json
-import os
 import pathlib
 import re
 import shutil
@@ -17,7 +16,7 @@ import tempfile
 sys.path.insert(0, str(pathlib.Path(__file__).resolve().parents[2]))
 import recipes
 from checking import Cases, both_builds
-from hiding import FRAMES, Place, all_of, bared, encoded, ffmpeg, frames_of, is_hidden, source
+from hiding import Place, all_of, encoded, ffmpeg, frames_of, is_hidden
 
 
 def streams(folder, name, entries="stream=codec_type,codec_name,width,height,pix_fmt,field_order,color_transfer,color_primaries,color_space,color_range,codec_tag_string:stream_side_data=rotation"):

@@ -22,6 +22,8 @@ from fractions import Fraction
 
 sys.path.insert(0, str(pathlib.Path(__file__).resolve().parents[2]))
 from checking import ROOT, Cases, both_builds
+from hiding import ffmpeg
+from needs import python_with
 from tries import grey
 
 WIDTH, HEIGHT, FRAMES, RATE = 192, 128, 180, 30
@@ -126,11 +128,6 @@ def picture(number):
     return plane
 
 
-def ffmpeg(folder, words):
-    """Runs ffmpeg in a folder on words without spaces in them."""
-    return subprocess.run(["ffmpeg", "-v", "error", "-y", *words.split()], cwd=folder, check=True, capture_output=True, timeout=300).stdout
-
-
 def made_files(folder):
     """The six kinds of files, by what is special about them."""
     pathlib.Path(folder, "source.y4m").write_bytes(grey(WIDTH, HEIGHT, map(picture, range(FRAMES)), rate=f"{RATE}:1"))
@@ -198,13 +195,6 @@ def recipes():
     """The recipes of the page with a detector: each block of indented lines."""
     blocks = re.findall(r"(?:^    .*\n)+", (ROOT / "docs/FRAMES.md").read_text(), re.MULTILINE)
     return [block for block in blocks if "examples/detect_" in block]
-
-
-def python_with_both():
-    for python in ("python3", "/usr/bin/python3"):
-        if shutil.which(python) and subprocess.run([python, "-c", "import numpy, PIL"], capture_output=True).returncode == 0:
-            return shutil.which(python)
-    return None
 
 
 def room(folder, program, python):
@@ -317,7 +307,7 @@ def by_kinds(cases, program, python):
 
 
 def main():
-    cases, python = Cases(), python_with_both()
+    cases, python = Cases(), python_with("numpy, PIL")
     programs = both_builds(cases, "imgref_frames")[:1]
     label, number = "the recipes of docs/FRAMES.md with a detector", 6 * (4 * len(recipes()) + 2)
     if cases.lacks(label, "ffmpeg", "python3-numpy", "python3-pil", number=number):

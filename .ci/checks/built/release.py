@@ -18,7 +18,7 @@ import sys
 import tempfile
 
 sys.path.insert(0, str(pathlib.Path(__file__).resolve().parents[2]))
-from checking import ROOT, Cases, copied, crates
+from checking import ROOT, Cases, copied, crates, side_by_side
 from library import counted, run
 
 import web
@@ -386,19 +386,6 @@ def wheel_on_aarch64(cases, release, room):
         counted(cases, f"the wheel on aarch64: {it}", said, status, has_skips=False)
 
 
-def side_by_side(cases, release, room):
-    """What is tried of a release, each part in folders of its own, and with cases of its own that are added up."""
-
-    def tried(part):
-        own = Cases()
-        part(own, release, room)
-        return own
-
-    with concurrent.futures.ThreadPoolExecutor() as pool:
-        for own in pool.map(tried, (tried_inside, on_aarch64, wheel_of_each, wheel_on_aarch64, planted, refusals)):
-            cases.add(own)
-
-
 def main():
     cases = Cases()
     cases.count("the version has its section", f"## [{VERSION}]" in (ROOT / "CHANGELOG.md").read_text())
@@ -419,7 +406,8 @@ def main():
         if release := made_twice(cases, room):
             provenance(cases, release)
             by_lintian(cases, release)
-            side_by_side(cases, release, room)
+            # (each in folders of its own)
+            side_by_side(cases, [lambda own, it=it: it(own, release, room) for it in (tried_inside, on_aarch64, wheel_of_each, wheel_on_aarch64, planted, refusals)])
     return cases.end()
 
 
