@@ -5,9 +5,7 @@ import tempfile
 from fractions import Fraction
 
 import tries
-from edits import Fault, edits_of
-from frames import answer
-from tries import STATUS, ends, lines_said, without_note
+from tries import ends, lines_said, wanted, without_note
 
 # What a box becomes where no option says otherwise.
 COVER = ("cover", [])
@@ -69,10 +67,7 @@ def options(hold=None, style=COVER, margin=None):
 
 def by_model(data, lines, edits=(), **how):
     """What is to be written: the boxes are first."""
-    try:
-        return answer(data, covers(lines, **how) + edits_of(edits)), "", 0
-    except Fault as fault:
-        return fault.written, f"fault {fault.name}", STATUS[fault.name.split()[0]]
+    return wanted(data, edits, covers(lines, **how))
 
 
 def run(program, lines, words, data, ending="\n"):

@@ -45,10 +45,10 @@ def ends(program, words, data):
     return done.stdout, said[0], done.returncode
 
 
-def wanted(data, words):
-    """The same by the model."""
+def wanted(data, words, before=()):
+    """The same by the model, with these edits before those of the words."""
     try:
-        return answer(data, edits_of(words)), "", 0
+        return answer(data, [*before, *edits_of(words)]), "", 0
     except Fault as fault:
         return fault.written, f"fault {fault.name}", STATUS[fault.name.split()[0]]
 

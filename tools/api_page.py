@@ -16,7 +16,7 @@ import pathlib
 import re
 import sys
 
-from items import Item, read, subject, words_of
+from items import Item, imported, read, subject, words_of
 from workspace import ROOT, crates
 
 # The crates of each page, what it is called, and how it begins.
@@ -72,7 +72,7 @@ TOP = 8
 WORD = re.compile(r"[^\W\d]\w*(?:\.\w+)*")
 SPECIAL = re.compile(r"(?<!\w)_|_(?!\w)|[*\[\]\\`~|]")
 DEFINED = re.compile(r"\s*(?:abbrev |unfoldable )?(?:pub )?(?:record |data )?([^\W\d][\w-]*)(?: |$)")
-USED = re.compile(r"pub use Rattle\.([\w.]+?)(?:\.\{(.*)\})?$")
+USED = re.compile(r"pub use Rattle\.([\w.]+?)$")
 
 
 def lines_of(path):
@@ -101,8 +101,8 @@ def defined(module, name):
     if path.exists():
         if name in definitions(path):
             return path, definitions(path)[name]
-        used = [USED.match(it) for it in lines_of(path)]
-        return next((defined(it[1], name) for it in used if it and it[2] and name in re.findall(r"\w+", it[2])), None)
+        there, known = imported(path.read_text()).get(name, ("", ""))
+        return defined(there.removeprefix("Rattle."), known) if there else None
     used = [USED.match(it) for it in lines_of(path.parent / "Lib.antt")]
     return next((defined(it[1], name) for it in used if it and it[1].endswith(f".specs.{below}")), None)
 

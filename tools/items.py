@@ -6,7 +6,7 @@ import re
 OPENS = re.compile(r"(?P<is_public>pub )?(?:pub\(\w+\) )?(?:const )?(?:unsafe )?(?:extern \"C\" )?(?P<kind>fn|struct|enum|trait|type|impl|const|static|ghost|use|mod)\b ?(?P<name>\w*)")
 CLAUSE = re.compile(r"\s*(requires|ensures\*?)\s*(\w*)\s*\{")
 EQUATION = re.compile(r"ghost (\w+)(:| =) \{(.*)\}[;,]$")
-IMPORT = re.compile(r"ghost use ([\w.]+)\.\{(.*)\};")
+IMPORTED = re.compile(r"(?m)^ *(?:pub )?(?:ghost )?use ([\w.]+)\.\{([^}]*)\}")
 MEMBERS = "    "
 
 
@@ -123,12 +123,16 @@ def type_name(text):
     return named[1] if named else text
 
 
-def words_of(items):
-    """The words that these items import for contracts: each by its name here, with where it comes from and its name there."""
+def imported(text):
+    """The names that a text imports from modules of definitions and lemmas: each by its name here, with the module and its name there."""
     found = {}
-    for it in items:
-        imported = IMPORT.match(" ".join(line.strip() for line in it.head)) if it.kind == "ghost" and it.name == "use" else None
-        for word in imported[2].split(",") if imported else []:
-            there, _, here = word.strip().partition(" as ")
-            found[here or there] = (imported[1], there)
+    for module, names in IMPORTED.findall(text):
+        for it in names.split(","):
+            there, _, here = it.strip().partition(" as ")
+            found[here.strip() or there] = (module, there)
     return found
+
+
+def words_of(items):
+    """The words that these items import for contracts."""
+    return imported("\n".join(line for it in items if it.kind == "ghost" and it.name == "use" for line in it.head))
