@@ -15,7 +15,8 @@
 # make web                 proves and builds the page that covers parts of a picture: out/web/index.html
 # make web-serve [PORT=..] the same, and serves it on this machine alone
 # make release             tries every planted bug, and builds all that a user has without the toolchain: out/release/ (docs/RELEASE.md)
-# make docs                writes docs/API.md and out/INNER.md, every public call with its contract, and the counts that pages have
+# make docs                writes docs/API.md and out/INNER.md, every public call with its contract, docs/CRATES.md, each crate with its
+#                          files, and the numbers that pages have
 # make exports             writes the exports for cells of 2, 4 and 8 bytes from those for one byte
 # make bench [BENCH=..]    times the calls and the program beside plain loops; BENCH: options of tools/bench.py
 #
@@ -77,6 +78,7 @@ release:
 
 docs:
 	@python3 tools/api_page.py
+	@python3 tools/crates_page.py
 	@python3 .ci/checks/page_numbers.py --write
 
 exports:

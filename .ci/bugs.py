@@ -37,16 +37,22 @@ class Bug:
         return self.folder is not False
 
 
-def read(path, crate):
-    """Reads an edit of a crate, or raises ValueError."""
+def pairs_of(text):
+    """The pairs of old and new text of an edit, each with its file."""
     file, old, pairs = None, None, []
-    for line in path.read_text(encoding="utf-8").split("\n"):
+    for line in text.split("\n"):
         if line.startswith("file: "):
             file = line[len("file: ") :].strip()
         elif line.startswith("old: "):
             old = line[len("old: ") :]
         elif line.startswith("new:"):
             pairs.append((file, old, line[len("new:") :].removeprefix(" ")))
+    return pairs
+
+
+def read(path, crate):
+    """Reads an edit of a crate, or raises ValueError."""
+    pairs = pairs_of(path.read_text(encoding="utf-8"))
     texts = {file: (crate / file).read_text(encoding="utf-8") for file, _, _ in pairs}
     applied(dict(texts), pairs)
     places = [(file, function_at(texts[file], old)) for file, old, _ in pairs if old in texts[file]]

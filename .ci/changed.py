@@ -15,6 +15,7 @@ import tarfile
 import tempfile
 
 from functions import function_names, proof_folder
+from items import imported
 from processes import run_to_end
 from workspace import PARTS, ROOT, crates, entries, own_sources, with_those_below
 
@@ -31,8 +32,7 @@ WORDS = re.compile(r"[^\s(){}\[\],.;:`<>&|!?=]+")
 CALLED = re.compile(r"(\.|\b(?:\w+::)+|\b)(\w+)(?:::<[^;(]*>)?\(")
 # The first words of a definition, before its name.
 OPENS = re.compile(r"(?:(?:pub|abbrev|record|data|law|opaque|instance|theorem|ruleset) )*(\S+)")
-# Imports of names, and of whole modules under another name.
-IMPORTED = re.compile(r"(?m)^ *(pub )?(?:ghost )?use ([\w.]+)\.\{([^}]*)\}")
+# Imports of whole modules, perhaps under another name.
 RENAMED = re.compile(r"(?m)^ *(?:pub )?(?:ghost )?use ([\w.]+?)(?: as (\w+))?;?$")
 RUST_USE = re.compile(r"(?m)^ *(?:pub )?use ([\w:]+?)::(?:(\w+)|\{([^}]*)\});")
 # A type, a constant or a trait of a source file, up to the line that ends it.
@@ -118,10 +118,7 @@ class File:
     rust: dict = dataclasses.field(default_factory=dict)
 
     def __post_init__(self):
-        for _, module, names in IMPORTED.findall(self.text):
-            for it in names.split(","):
-                there, _, here = it.strip().partition(" as ")
-                self.imports[here.strip() or there] = (module, there)
+        self.imports = imported(self.text)
         for module, name in RENAMED.findall(self.text):
             self.modules[name or module.rpartition(".")[2]] = module
         for path, one, several in RUST_USE.findall(self.text):

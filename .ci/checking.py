@@ -11,7 +11,7 @@ import tempfile
 
 sys.path.insert(0, str(pathlib.Path(__file__).resolve().parent.parent / "tools"))
 from needs import needs, package_of
-from workspace import ROOT, crates, is_fresh, says
+from workspace import ROOT, crates, is_fresh, linked, says
 
 # By this word a check runs over one build of a program.
 ONE_BUILD = "--one-build"
@@ -96,16 +96,30 @@ def side_by_side(cases, checks):
             cases.add(own)
 
 
+# What proofs cached, in the folder out/ of a crate.
+CACHED = ("incremental", "rlib")
+
+
+def copied(folder, without=("out",)):
+    """A copy of the repository in that folder, without its history, without its folder out/, and without these folders of each crate."""
+
+    def left_out(at, names):
+        inside = pathlib.Path(at).relative_to(ROOT).parts
+        return [".git", "out"] if not inside else without if inside[0] == "crates" and len(inside) == 2 else []
+
+    def copy(source, target):
+        inside = pathlib.Path(source).relative_to(ROOT).parts
+        (linked if inside[2:3] == ("out",) and inside[3] in CACHED else shutil.copy2)(source, target)
+
+    return pathlib.Path(shutil.copytree(ROOT, folder, ignore=left_out, copy_function=copy))
+
+
 @contextlib.contextmanager
-def changeable_copy():
-    """A copy of the repository without its history and without cached work, which is there until the end of the block."""
-
-    def left_out(folder, names):
-        inside = pathlib.Path(folder).relative_to(ROOT).parts
-        return [".git", "out"] if not inside else ["out"] if inside[0] == "crates" and len(inside) == 2 else []
-
-    with tempfile.TemporaryDirectory(prefix="copy-") as room:
-        yield pathlib.Path(shutil.copytree(ROOT, f"{room}/copy", ignore=left_out))
+def changeable_copy(without=("out",)):
+    """Such a copy, which is there until the end of the block. Other users may work below it."""
+    with tempfile.TemporaryDirectory(prefix="copy-", ignore_cleanup_errors=True) as room:
+        os.chmod(room, 0o711)
+        yield copied(f"{room}/copy", without)
 
 
 def built(name, endings):

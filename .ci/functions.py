@@ -1,14 +1,12 @@
 """Functions in the text of a source file: where each begins and ends, what it is a function of, and its proof files.
 
-A file is read by its layout, which `rt fmt` makes: a function ends at the first line that is a brace under its first word.
+A file is read by its layout, which `rt fmt` makes (tools/items.py).
 """
 import dataclasses
 import re
 
-from items import braced
+from items import braced, read, subject
 
-HEAD = re.compile(r"( *)((?:pub(?:\(\w+\))? )?(?:const )?(?:unsafe )?(?:extern \"C\" )?)fn (\w+)")
-OWNER = re.compile(r"(?:unsafe )?(impl|(?:pub(?:\(\w+\))? )?trait)\b(.*)")
 # What only one function may have: a name for the linker, or a place in a cycle of calls.
 UNIQUE = re.compile(r"\s*#\[.*\b(?:export_name|no_mangle|cycle|test|cfg)\b")
 
@@ -40,41 +38,44 @@ class Function:
         return re.sub(rf"\bfn {self.name}\b", f"fn {name}", text, count=1)
 
 
+def functions(text):
+    """Each function of a file as an item, with the block that it is in, or None."""
+    for it in read(text.split("\n")):
+        if it.kind == "fn":
+            yield it, None
+        yield from ((member, it) for member in it.members if member.kind == "fn")
+
+
 def function_names(text):
     """The line of each function, from 0, and its name."""
-    heads = ((at, HEAD.match(line)) for at, line in enumerate(text.split("\n")))
-    return [(at, it[3]) for at, it in heads if it]
+    return [(it.line, it.name) for it, _ in functions(text)]
 
 
 def function_at(text, part):
     """The function that has a part of the text, or None where no function has it."""
     lines, at = text.split("\n"), text[: text.index(part)].count("\n")
-    before = [(line, name) for line, name in function_names(text) if line <= at]
+    before = [(it, block) for it, block in functions(text) if it.line <= at]
     if not before:
         return None
-    head, name = before[-1]
-    indent = HEAD.match(lines[head])[1]
-    # (the end of a declaration in a trait is not looked for: it has no body)
-    end = next((it + 1 for it in range(head, len(lines)) if lines[it] == f"{indent}}}"), len(lines))
-    start = head
+    found, block = before[-1]
+    name, start = found.name, found.line
     while start and lines[start - 1].strip().startswith("#["):
         start -= 1
-    number = [line for line, it in before if it == name].index(head)
-    body = "\n".join(lines[head + 1 : end])
-    is_unique = any(UNIQUE.match(it) for it in lines[start:head]) or at >= end
-    return Function(name, number, start, end, owner_of(lines, head, indent), is_unique, bool(re.search(rf"\b{name}\b *(?:::<[^;(]*>)?\(", body)))
+    number = sum(it.name == name for it, _ in before) - 1
+    body = "\n".join(lines[found.line + 1 : found.end])
+    is_unique = any(UNIQUE.match(it) for it in lines[start : found.line]) or at >= found.end
+    return Function(name, number, start, found.end, owner_of(block), is_unique, bool(re.search(rf"\b{name}\b *(?:::<[^;(]*>)?\(", body)))
 
 
 def span_of(text, name):
     """The lines of the function of that name, from 0 and the end after the last, with its doc lines. Raises ValueError without one."""
-    found = next((line for line, it in function_names(text) if it == name), None)
+    found = next((it for it, _ in functions(text) if it.name == name), None)
     if found is None:
         raise ValueError(f"error: there is no function {name}")
-    lines = text.split("\n")
-    start, indent = found, HEAD.match(lines[found])[1]
+    lines, start = text.split("\n"), found.line
     while start and lines[start - 1].strip().startswith(("#[", "//")):
         start -= 1
-    return start, lines.index(f"{indent}}}", found) + 1
+    return start, found.end
 
 
 def with_function(text, name, change):
@@ -102,31 +103,12 @@ def without_clause(function, name):
     return function[: opened[0].start()] + function[braced(function, opened[0].end()) + 2 :]
 
 
-def owner_of(lines, head, indent):
+def owner_of(block):
     """The type of the `impl` that a function is in, "" where it is in a module, or None in a trait or its `impl`."""
-    if not indent:
+    if not block:
         return ""
-    above = next((it for it in reversed(lines[:head]) if it and not it.startswith((" ", "}", "//", "#"))), "")
-    # (a `where` and the brace may have lines of their own)
-    lines_above = [it for it in reversed(lines[:head]) if OWNER.match(it)]
-    found = OWNER.match(lines_above[0]) if lines_above else None
-    if not found or found[1] != "impl":
-        return None
-    said = without_parameters(found[2])
-    if re.search(r"\sfor\s", said) or above == "":
-        return None
-    name = re.match(r"\s*&?(?:mut )?(?:'\w+ )?([A-Z]\w*)", said)
-    return name[1] if name else None
-
-
-def without_parameters(said):
-    """What comes after the parameters of an `impl`."""
-    depth = 0
-    for at, it in enumerate(said):
-        depth += (it == "<") - (it == ">" and said[at - 1] != "-")
-        if depth == 0 and it not in " ":
-            return said[at + 1 :] if it == ">" else said[at:]
-    return said
+    of, trait = subject(block)
+    return of if block.kind == "impl" and not trait and of[:1].isupper() else None
 
 
 def proof_folder(crate, file, function):

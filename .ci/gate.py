@@ -31,11 +31,10 @@ import re
 import shutil
 import subprocess
 import sys
-import tempfile
 import threading
 import time
 
-from checking import COUNT, ONE_BUILD, ROOT, SKIPPED, VARIANT, crates, is_strict, says
+from checking import COUNT, ONE_BUILD, ROOT, SKIPPED, VARIANT, changeable_copy, crates, is_strict, says
 
 from changed import since_landing
 from needs import of_tests
@@ -246,21 +245,6 @@ def side_by_side(lines):
             it.result()
 
 
-@contextlib.contextmanager
-def copied():
-    """A copy of the repository without the planted bugs, without its history and without cached work."""
-
-    def left_out(folder, names):
-        inside = pathlib.Path(folder).relative_to(ROOT).parts
-        return [".git", "out"] if not inside else ["out", "must-fail"] if inside[0] == "crates" and len(inside) == 2 else []
-
-    with tempfile.TemporaryDirectory(prefix="gate-", ignore_cleanup_errors=True) as room:
-        os.chmod(room, 0o711)
-        top = pathlib.Path(shutil.copytree(ROOT, f"{room}/copy", ignore=left_out))
-        (top / ".git").mkdir()
-        yield top
-
-
 def check(parts, _):
     """Proves and tests what has changed, of all crates or of one with what it depends on."""
     if crate := os.environ.get("CRATE"):
@@ -316,7 +300,9 @@ def landing(parts, only):
 
 def from_nothing(parts, only):
     """Runs everything, and proves all of it anew."""
-    with copied() as top:
+    # (the planted bugs are tried beside it; the search of `rt` for the top ends at a folder .git)
+    with changeable_copy(without=("out", "must-fail")) as top:
+        (top / ".git").mkdir()
         of_ci = Part("rt ci", ["rt", "ci", "--anew"], top, proofs=sum(1 + says(it, "#[test]") for it in crates()), nice=0)
         # (these run in the copy, where `rt ci` left the programs)
         built = scripts(CHECKS / "built", top, without=(RELEASE,))

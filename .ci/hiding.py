@@ -3,13 +3,10 @@ import concurrent.futures
 import contextlib
 import os
 import pathlib
-import re
 import shutil
 import signal
 import subprocess
 import sys
-import tempfile
-import time
 
 from checking import ROOT
 
@@ -76,8 +73,8 @@ def source(width=WIDTH, height=HEIGHT, rate=RATE, frames=FRAMES, square=SQUARE):
     return f"-filter_complex {moving}[v] -map [v]"
 
 
-def video(folder, name, more="", sound=True, **size):
-    """Makes such a video, with a sound of the same length."""
+def encoded(folder, name, more="", sound=True, **size):
+    """Makes a file of such a video by ffmpeg, with a sound of the same length."""
     tone = "-f lavfi -i sine=duration=1:sample_rate=44100" if sound else ""
     kept = "-map 0:a -c:a aac" if sound and "-c:a" not in more else "-map 0:a" if sound else ""
     ffmpeg(folder, f"{tone} {source(**size)} {kept} -c:v libx264 -preset ultrafast -crf 10 -pix_fmt yuv420p {more} {name}")

@@ -32,8 +32,8 @@ from bugs import batches, plant, read
 from changed import affected, for_landing
 from packing import sum_of, sum_of_tree
 from processes import end_on_signals, run_to_end, workers
-from proving import Failed, Progress, all_below, processors, prove_changed, run, weights_of
-from workspace import PARTS, ROOT, crates, room, with_those_below
+from proving import Failed, Progress, all_below, processors, prove_changed, said_with, weights_of
+from workspace import PARTS, ROOT, crates, with_those_below
 
 GOAL = re.compile(r"note: (?:\./)?(src/\S+?):(\d+):\d+: ")
 STALE = re.compile(r"(?:note: )?(?:\./)?(proofs/\S+/Answers\.antt):\d+:\d+: error: `([^`]*)`")
@@ -51,15 +51,9 @@ MOST_CHECKS = 4
 HARDLY = re.compile(r"(?:\./)?proofs/.*(?:has no field|is not in scope|has no `|was not admitted)")
 
 
-def said_with(name, texts, only=()):
-    """What the check of a crate, or of these functions, says with these texts in place of its own, over a copy of its cached proofs."""
-    lines = []
-    with room(name) as made:
-        for file, text in texts.items():
-            (made / file).parent.mkdir(parents=True, exist_ok=True)
-            (made / file).write_text(text, encoding="utf-8")
-        status = run(["rt", "check", "--jobs", "1", *(word for it in only for word in ("--only", it))], made, lines.append)
-    return "".join(lines).rstrip("\n").split("\n"), status
+def said_of(name, texts, only=()):
+    """What the check of a crate, or of these functions, says with these texts in place of its own."""
+    return said_with(name, {f"{name}/{file}": text for file, text in texts.items()}, [word for it in only for word in ("--only", it)])
 
 
 def goal_of(spans, lines):
@@ -113,7 +107,7 @@ def try_together(name, bugs, only):
                 text = (crate / file).read_text(encoding="utf-8")
             if text is not None:
                 planted.texts[file] = without(text, goals)
-        lines, status = said_with(name, planted.texts, only(left))
+        lines, status = said_of(name, planted.texts, only(left))
         first = first or (lines, status, planted.texts)
         if status != 1 or any(is_unreadable(it, planted.texts) for it in lines):
             break
@@ -146,7 +140,7 @@ def try_all(name, bugs):
 
 def compile_all(name, bugs):
     """Compiles bugs together, and where that fails one by one. Gives for each whether it compiles and what to say."""
-    lines, _ = said_with(name, plant(bugs, ROOT / "crates" / name).texts, [NO_FUNCTION])
+    lines, _ = said_of(name, plant(bugs, ROOT / "crates" / name).texts, [NO_FUNCTION])
     if any(f"no function `{NO_FUNCTION}`" in it for it in lines):
         yield from ((True, f"{bug.name}: compiles") for bug in bugs)
     elif len(bugs) > 1:
@@ -226,7 +220,7 @@ def main():
             bugs = for_landing(bugs)
         checks = [(name, batch) for name, found in bugs.items() for batch in batches(found)]
         if asked.list:
-            print(*(f"{name}: {', '.join(it.path.stem + ('' if it.is_copied else ' (in place)') for it in batch)}" for name, batch in checks), sep="\n")
+            print(*(f"{name}: {', '.join(it.path.stem + ('' if it.is_copied else ' (in place)') for it in batch)}" for name, batch in checks), sep="\n", flush=True)
             return 0
         said = prove_changed([*bugs], Progress(*weights_of(all_below([*bugs]))))
         if said is not None:

@@ -21,7 +21,7 @@ from checking import ROOT, Cases, built, crates, says
 from changed import since_landing
 from processes import end_on_signals
 from program import shown
-from proving import After, Progress, all_below, prove_changed, run, weight, weights_of
+from proving import After, Progress, all_below, prove_changed, run, said_with, weight, weights_of
 from workspace import is_program, keep_program, product, room
 
 # What a crate's last line says, and words that it may not have: what a verdict refuses.
@@ -45,8 +45,7 @@ def lines_of(command, at):
 
 def ask(cases, name):
     """Asks of a proved crate what a verdict asks."""
-    with room(name) as made:
-        lines, status = lines_of(["rt", "check", "--jobs", "1", "--empty-contracts"], made)
+    lines, status = said_with(name, {}, ["--empty-contracts"])
     last = next((it for it in reversed(lines) if PROVED.match(it)), "")
     words = {it.partition("=")[0] for it in last.split()}
     bad = [it for it in lines if WARNED.match(it)] + [f"the last line has {it}: {last}" for it in REFUSED if it in words]

@@ -16,13 +16,12 @@ import pathlib
 import re
 import shutil
 import subprocess
-import sys
 import tempfile
 import zipfile
 
 from checking import COUNT, ROOT, built
 from library import run
-from needs import needs
+from needs import PYTHONS, imports, needs
 from workspace import is_proved, room
 
 import c_library
@@ -31,7 +30,6 @@ from python_package import HOOK
 CODE = re.compile(r"(?:^    .*\n(?:[ \t]*\n(?=    ))*)+", re.MULTILINE)
 FENCED = re.compile(r"(?ms)^```\w*\n(.*?)^```$")
 EXAMPLE = re.compile(r"(?ms)^\.EX\n(.*?)^\.EE$")
-PYTHONS = (sys.executable, "/usr/bin/python3")
 DOCTEST = "import doctest, sys; failed, tried = doctest.testfile(sys.argv[1], module_relative=False, optionflags=doctest.ELLIPSIS); print(f'{tried - failed} passed, {failed} failed')"
 HEADERS = "".join(f"#include <{it}>\n" for it in ("array", "cstdint", "cstdio", "vector", "imgref.hpp"))
 CARGO = '[package]\nname = "shown"\nversion = "0.0.0"\nedition = "2021"\n[dependencies]\nimgref-proved = {{ path = "{}" }}\n'
@@ -126,11 +124,8 @@ def said_on(page, wrote):
 
 def numpy_python(needs_numpy):
     """A Python with its headers, and with NumPy where that is needed, or None."""
-    for it in PYTHONS:
-        test = "import sysconfig, os, sys; sys.exit(not os.path.exists(sysconfig.get_path('include') + '/Python.h'))" + ("\nimport numpy" if needs_numpy else "")
-        if shutil.which(it) and run([it, "-c", test + "\n"])[0] == 0 and (not needs_numpy or run([it, "-c", "import numpy"])[0] == 0):
-            return it
-    return None
+    has_headers = "import sysconfig, os, sys; sys.exit(not os.path.exists(sysconfig.get_path('include') + '/Python.h'))"
+    return next((it for it in PYTHONS if shutil.which(it) and run([it, "-c", has_headers])[0] == 0 and (not needs_numpy or imports(it, "numpy"))), None)
 
 
 def run_python(cases, pages, folder):

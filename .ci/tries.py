@@ -11,14 +11,25 @@ SAMPLINGS = ("mono", "420jpeg", "420", "422", "411", "444", "444alpha", "420p10"
 FILL = "fill 4,2,6,4 126"
 
 
-def video(sampling, width=12, height=8, frames=3, parameters=(b"",), fields=b"Ip"):
-    """A small video with pixels by chance, the same in each run. The frames have these parameters in turn."""
+def y4m(sampling, width, height, frames, parameters=(b"",), fields=b"Ip", rate="25:1"):
+    """A video with the cells of each of these frames, which have these parameters in turn. Without a rate its line names none."""
+    rated = "" if rate is None else f" F{rate}"
+    line = f"YUV4MPEG2 W{width} H{height}{rated} ".encode() + fields + f" A1:1 C{sampling} XLABEL=a\n".encode()
+    return line + b"".join(b"FRAME" + parameters[at % len(parameters)] + b"\n" + cells for at, cells in enumerate(frames))
+
+
+def grey(width, height, planes, **more):
+    """A video without colour of these planes of brightness."""
+    return y4m("420jpeg", width, height, (it + bytes([128]) * (width * height // 2) for it in planes), **more)
+
+
+def video(sampling, width=12, height=8, frames=3, **more):
+    """A small video with pixels by chance, the same in each run."""
     chance = random.Random(f"{sampling} {width} {height}")
     deep = re.fullmatch("(mono|420|422|444)p?(9|1[0246])", sampling)
     name, sample = (deep[1], 2) if deep else (sampling, 1)
     chroma = {"mono": 0, "411": 2 * (-(-width // 4)) * height, "422": 2 * (-(-width // 2)) * height, "444": 2 * width * height, "444alpha": 3 * width * height}.get(name, 2 * (-(-width // 2)) * (-(-height // 2)))
-    line = f"YUV4MPEG2 W{width} H{height} F25:1 ".encode() + fields + f" A1:1 C{sampling} XLABEL=a\n".encode()
-    return line + b"".join(b"FRAME" + parameters[it % len(parameters)] + b"\n" + chance.randbytes(sample * (width * height + chroma)) for it in range(frames))
+    return y4m(sampling, width, height, (chance.randbytes(sample * (width * height + chroma)) for _ in range(frames)), **more)
 
 
 def lines_said(program, words, data):
@@ -34,10 +45,10 @@ def ends(program, words, data):
     return done.stdout, said[0], done.returncode
 
 
-def wanted(data, words):
-    """The same by the model."""
+def wanted(data, words, before=()):
+    """The same by the model, with these edits before those of the words."""
     try:
-        return answer(data, edits_of(words)), "", 0
+        return answer(data, [*before, *edits_of(words)]), "", 0
     except Fault as fault:
         return fault.written, f"fault {fault.name}", STATUS[fault.name.split()[0]]
 

@@ -11,13 +11,12 @@ its signature, its `///` lines and all its clauses. Each word of a clause is a l
 import collections
 import dataclasses
 import functools
-import itertools
 import os
 import pathlib
 import re
 import sys
 
-from items import Item, read, words_of
+from items import Item, imported, read, subject, words_of
 from workspace import ROOT, crates
 
 # The crates of each page, what it is called, and how it begins.
@@ -73,7 +72,7 @@ TOP = 8
 WORD = re.compile(r"[^\W\d]\w*(?:\.\w+)*")
 SPECIAL = re.compile(r"(?<!\w)_|_(?!\w)|[*\[\]\\`~|]")
 DEFINED = re.compile(r"\s*(?:abbrev |unfoldable )?(?:pub )?(?:record |data )?([^\W\d][\w-]*)(?: |$)")
-USED = re.compile(r"pub use Rattle\.([\w.]+?)(?:\.\{(.*)\})?$")
+USED = re.compile(r"pub use Rattle\.([\w.]+?)$")
 
 
 def lines_of(path):
@@ -102,8 +101,8 @@ def defined(module, name):
     if path.exists():
         if name in definitions(path):
             return path, definitions(path)[name]
-        used = [USED.match(it) for it in lines_of(path)]
-        return next((defined(it[1], name) for it in used if it and it[2] and name in re.findall(r"\w+", it[2])), None)
+        there, known = imported(path.read_text()).get(name, ("", ""))
+        return defined(there.removeprefix("Rattle."), known) if there else None
     used = [USED.match(it) for it in lines_of(path.parent / "Lib.antt")]
     return next((defined(it[1], name) for it in used if it and it[1].endswith(f".specs.{below}")), None)
 
@@ -179,22 +178,6 @@ def home(name, crate):
 
 
 # ---- blocks of code
-
-
-def subject(block):
-    """The type that a block is for, and the trait, if it is the block of one."""
-    text = " ".join(it.strip() for it in block.head).removeprefix("impl")
-    if text.startswith("<"):
-        depths = list(itertools.accumulate({"<": 1, ">": -1}.get(it, 0) for it in text.replace("->", "- ")))
-        text = text[depths.index(0) + 1 :]
-    trait, _, of = text.strip().partition(" for ")
-    return type_name(of or trait), type_name(trait) if of else None
-
-
-def type_name(text):
-    """The name of a type without what it is made of, or all of it where it has no name of its own."""
-    named = re.match(r"(?:\w+::)*(\w+)", text)
-    return named[1] if named else text
 
 
 def code(lines):

@@ -30,6 +30,7 @@ import zipfile
 import c_library
 import python_package
 from c_library import Failure, command, compiler, shift, toolchain
+from needs import python_with
 from processes import end_on_signals, end_on_signals_too, run_to_end, started, unbroken
 from program import built, say
 from speed_tables import SHOWN, Call, call_tables, calls_shown, frames_table, others_table, plot, script_table
@@ -240,17 +241,9 @@ def frames_rows(count):
             yield name, edit, count / least[edit], *(least[it] / least[edit] if it else None for it in ("cat", "dd", filters.get(edit)))
 
 
-def python_of_others():
-    """A Python that has OpenCV and NumPy, or nothing."""
-    for python in (sys.executable, "/usr/bin/python3"):
-        if shutil.which(python) and subprocess.run([python, "-c", "import cv2, numpy"], capture_output=True).returncode == 0:
-            return python
-    return None
-
-
 def others():
     """The package for Python beside OpenCV and NumPy: the tables of some sides and of all. Nothing where a Python lacks them."""
-    python = python_of_others()
+    python = python_with("cv2, numpy")
     if not python:
         say("no Python with OpenCV and NumPy: their table is left out")
         return None

@@ -144,11 +144,11 @@ def installed():
         **{f"share/man/man{it}": sorted(MAN.glob(f"*.{it}")) for it in (1, 3)},
     }
     files = {f"{below}/{it.name}": it for below, sources in folders.items() for it in sources}
-    return files | {"bin/imgref-boxes": ROOT / "examples/boxes.py"} | hiding()
+    return files | {"bin/imgref-boxes": ROOT / "examples/boxes.py"} | scripts_and_pages()
 
 
-def hiding():
-    """The files of imgref-hide and the pages of the programs, by their paths below a prefix."""
+def scripts_and_pages():
+    """The files of imgref-hide, the examples that it shares and the pages of the programs, by their paths below a prefix."""
     files = {"bin/imgref-hide": HIDE / "imgref-hide"} | {path: HIDE / "completions" / name for path, name in COMPLETIONS.items()}
     files |= {f"share/imgref/programs/imgref_hide/{it.name}": it for it in sorted((HIDE / "imgref_hide").glob("*.py"))}
     files |= {f"share/doc/imgref/{it}": ROOT / "docs" / it for it in PAGES}

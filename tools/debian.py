@@ -11,7 +11,6 @@ from c_library import ABI, command
 from packing import Link, laid_out, squeezed
 from processes import run_to_end
 from version import VERSION
-from workspace import ROOT
 
 MAINTAINER = "Boyhagut maintainers <maintainers@users.noreply.boyhagut.example>"
 SOURCE = "imgref"
@@ -43,7 +42,7 @@ def parts(its):
     developer = {name: data for name, data in own.items() if "/include/" in name} | {f"{lib}/libimgref.so": Link(shared), f"{lib}/libimgref.a": tree["lib/libimgref.a"], f"{lib}/pkgconfig/imgref.pc": config} | cmake
     developer |= {name: data for name, data in pages.items() if "/man3/" in name}
     programs = {name: data for name, data in own.items() if "/bin/" in name} | {name: data for name, data in pages.items() if "/man1/" in name}
-    programs |= {f"usr/{name}".replace("/site-functions/", "/vendor-completions/").replace("/doc/imgref/", "/doc/imgref-tools/"): data for name, data in tree.items() if name in c_library.hiding() and not name.startswith("bin/")}
+    programs |= {f"usr/{name}".replace("/site-functions/", "/vendor-completions/").replace("/doc/imgref/", "/doc/imgref-tools/"): data for name, data in tree.items() if name in c_library.scripts_and_pages() and not name.startswith("bin/")}
     return {
         "libimgref1": ("strided 2-D images over proved calls - library", "libs", LIBC, library),
         "libimgref-dev": ("strided 2-D images over proved calls - development files", "libdevel", f"libimgref1 (= {VERSION})", developer),

@@ -1,11 +1,12 @@
 """The items of a crate's files and their contracts, read from text that `rt fmt` laid out: by its indents and its ends of lines."""
 import dataclasses
+import itertools
 import re
 
-OPENS = re.compile(r"(?P<is_public>pub )?(?:pub\(\w+\) )?(?:const )?(?P<kind>fn|struct|enum|trait|type|impl|const|ghost|use|mod)\b ?(?P<name>\w*)")
+OPENS = re.compile(r"(?P<is_public>pub )?(?:pub\(\w+\) )?(?:const )?(?:unsafe )?(?:extern \"C\" )?(?P<kind>fn|struct|enum|trait|type|impl|const|static|ghost|use|mod)\b ?(?P<name>\w*)")
 CLAUSE = re.compile(r"\s*(requires|ensures\*?)\s*(\w*)\s*\{")
 EQUATION = re.compile(r"ghost (\w+)(:| =) \{(.*)\}[;,]$")
-IMPORT = re.compile(r"ghost use ([\w.]+)\.\{(.*)\};")
+IMPORTED = re.compile(r"(?m)^ *(?:pub )?(?:ghost )?use ([\w.]+)\.\{([^}]*)\}")
 MEMBERS = "    "
 
 
@@ -20,7 +21,8 @@ class Clause:
 
 @dataclasses.dataclass
 class Item:
-    """An item of a file: what it is, its `///` lines, its signature, its clauses, and the items inside."""
+    """An item of a file: what it is, its `///` lines, its signature, its clauses, and the items inside. Its lines are counted from 0: that of
+    its first word, and the one after its last."""
 
     kind: str
     name: str
@@ -30,6 +32,8 @@ class Item:
     clauses: list = dataclasses.field(default_factory=list)
     members: list = dataclasses.field(default_factory=list)
     body: list = dataclasses.field(default_factory=list)
+    line: int = 0
+    end: int = 0
 
 
 def braced(text, at):
@@ -52,8 +56,10 @@ def clauses_of(text):
     return found
 
 
-def head_end(lines, at, pad):
+def head_end(lines, at, pad, kind):
     """The last line before a body, or of an item without one."""
+    if kind in ("const", "static"):
+        return next((it for it in range(at, len(lines)) if lines[it].endswith(";")), len(lines) - 1)
     for end in range(at, len(lines)):
         line = lines[end]
         if line in (f"{pad}{{", f"{pad}{{}}") or line.endswith((";", "}")) and not CLAUSE.match(line) and end == at:
@@ -63,8 +69,8 @@ def head_end(lines, at, pad):
     return len(lines) - 1
 
 
-def read(lines, pad=""):
-    """The items of these lines, which are indented by `pad`."""
+def read(lines, pad="", first=0):
+    """The items of these lines of a file, from the line `first` on, which are indented by `pad`."""
     told, derived, at = [], [], 0
     while at < len(lines):
         text = lines[at][len(pad) :]
@@ -74,9 +80,13 @@ def read(lines, pad=""):
         elif text.startswith("#[derive"):
             derived.append(text)
         elif opened:
-            end = head_end(lines, at, pad)
-            stop = end if not lines[end].endswith("{") else next(it for it in range(end, len(lines)) if lines[it] == f"{pad}}}")
-            yield item(opened, told, derived, lines[at : end + 1], lines[end + 1 : stop], pad)
+            end = head_end(lines, at, pad, opened["kind"])
+            stop = end if not lines[end].endswith("{") else next((it for it in range(end, len(lines)) if lines[it] == f"{pad}}}"), len(lines) - 1)
+            made = item(opened, told, derived, lines[at : end + 1], lines[end + 1 : stop], pad)
+            made.line, made.end = first + at, first + stop + 1
+            if made.kind in ("impl", "trait"):
+                made.members = list(read(made.body, pad + MEMBERS, first + end + 1))
+            yield made
             told, derived, at = [], [], stop
         elif not text.startswith("#"):
             told, derived = [], []
@@ -94,18 +104,35 @@ def item(opened, told, derived, head, body, pad):
         whole = " ".join(it.strip() for it in head)
         equation = EQUATION.match(whole)
         clauses = [Clause("ghost", equation[1], " ".join(equation[3].split()))] if equation else []
-    made = Item(kind, name, bool(opened["is_public"]), told, signature, clauses, body=body)
-    if kind in ("impl", "trait"):
-        made.members = list(read(body, pad + MEMBERS))
-    return made
+    return Item(kind, name, bool(opened["is_public"]), told, signature, clauses, body=body)
+
+
+def subject(block):
+    """The type that a block is for, and the trait, if it is the block of one."""
+    text = " ".join(it.strip() for it in block.head).removeprefix("impl")
+    if text.startswith("<"):
+        depths = list(itertools.accumulate({"<": 1, ">": -1}.get(it, 0) for it in text.replace("->", "- ")))
+        text = text[depths.index(0) + 1 :]
+    trait, _, of = text.strip().partition(" for ")
+    return type_name(of or trait), type_name(trait) if of else None
+
+
+def type_name(text):
+    """The name of a type without what it is made of, or all of it where it has no name of its own."""
+    named = re.match(r"(?:\w+::)*(\w+)", text)
+    return named[1] if named else text
+
+
+def imported(text):
+    """The names that a text imports from modules of definitions and lemmas: each by its name here, with the module and its name there."""
+    found = {}
+    for module, names in IMPORTED.findall(text):
+        for it in names.split(","):
+            there, _, here = it.strip().partition(" as ")
+            found[here.strip() or there] = (module, there)
+    return found
 
 
 def words_of(items):
-    """The words that these items import for contracts: each by its name here, with where it comes from and its name there."""
-    found = {}
-    for it in items:
-        imported = IMPORT.match(" ".join(line.strip() for line in it.head)) if it.kind == "ghost" and it.name == "use" else None
-        for word in imported[2].split(",") if imported else []:
-            there, _, here = word.strip().partition(" as ")
-            found[here or there] = (imported[1], there)
-    return found
+    """The words that these items import for contracts."""
+    return imported("\n".join(line for it in items if it.kind == "ghost" and it.name == "use" for line in it.head))

@@ -48,7 +48,7 @@ class Processor:
 
 def sources(with_programs):
     """What an archive has of the files that are installed, by their paths in it. The pages of section 1 are those of the programs."""
-    of_programs = lambda name: name.startswith(("bin/", "share/man/man1/")) or name in c_library.hiding()
+    of_programs = lambda name: name.startswith(("bin/", "share/man/man1/")) or name in c_library.scripts_and_pages()
     return {name: it for name, it in c_library.installed().items() if with_programs or not of_programs(name)}
 
 

@@ -4,11 +4,13 @@ import functools
 import glob
 import shutil
 import subprocess
+import sys
 
 from workspace import ROOT
 
 FILE = ROOT / "tools/needs.txt"
-PYTHONS = ("python3", "/usr/bin/python3")
+# The Python that runs this, and that of the system.
+PYTHONS = (sys.executable, "/usr/bin/python3")
 
 
 @dataclasses.dataclass(frozen=True)
@@ -25,15 +27,20 @@ class Need:
 
 
 @functools.lru_cache(None)
-def imports(python, module):
-    """Whether a Python of this machine has a module."""
-    return bool(shutil.which(python)) and subprocess.run([python, "-c", f"import {module}"], capture_output=True, stdin=subprocess.DEVNULL).returncode == 0
+def imports(python, modules):
+    """Whether a Python of this machine has these modules, which have commas between them."""
+    return bool(shutil.which(python)) and subprocess.run([python, "-c", f"import {modules}"], capture_output=True, stdin=subprocess.DEVNULL).returncode == 0
+
+
+def python_with(modules):
+    """A Python of this machine that has these modules, or nothing."""
+    return next((it for it in PYTHONS if imports(it, modules)), None)
 
 
 def is_shown(it):
     """Whether a program, a file or a module is there."""
     if it.startswith("import "):
-        return any(imports(python, it.split()[1]) for python in PYTHONS)
+        return bool(python_with(it.split()[1]))
     return bool(glob.glob(it)) if it.startswith("/") else bool(shutil.which(it))
 
 

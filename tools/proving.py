@@ -8,11 +8,10 @@ import dataclasses
 import os
 import re
 import subprocess
-import threading
 import time
 
 from processes import started
-from workspace import ROOT, crates, is_fresh, is_library, is_program, keep, own_sources, product, proved_once, room, with_those_below
+from workspace import crates, is_fresh, is_program, keep, own_sources, product, proved_once, room, with_those_below
 
 # What the prover says of how far it is in a crate.
 SO_FAR = re.compile(r"so far: (\d+) of (\d+) functions checked")
@@ -169,6 +168,15 @@ def run(command, at, hear):
         for line in part.stdout:
             hear(line)
     return part.returncode
+
+
+def said_with(name, texts, words=()):
+    """What `rt check` with these words says of a crate, and its status: with these texts in the place of files, as `room` takes them, and
+    over a copy of the cached proofs."""
+    lines = []
+    with room(name, texts) as made:
+        status = run(["rt", "check", "--jobs", "1", *words], made, lines.append)
+    return "".join(lines).rstrip("\n").split("\n"), status
 
 
 def command_of(name):

@@ -24,11 +24,11 @@ import web
 import wheels
 from c_library import Failure, command
 from packing import sum_of, sum_of_tree, tar_gz
-from processes import end_on_signals, run_to_end
+from processes import end_on_signals
 from program import built, say
-from proving import all_below, processors
+from proving import all_below, processors, said_with
 from version import VERSION
-from workspace import PARTS, ROOT, room, with_those_below
+from workspace import PARTS, ROOT, with_those_below
 
 OUT = ROOT / "out/release"
 PRODUCT = (*c_library.PROGRAMS, c_library.NAME)
@@ -62,12 +62,10 @@ def verdict(name):
     kept = ROOT / "crates" / name / "out/verdict"
     if kept.is_file() and kept.read_text().startswith(f"{key} "):
         return kept.read_text().split(" ", 1)[1].strip()
-    # (in a room: `rt` lets one run at a time work in a crate and in those below it)
-    with room(name) as folder:
-        ran = run_to_end(["rt", "check", "--jobs", "1"], cwd=folder)
-    if ran.returncode:
-        raise Failure(f"{ran.stdout}{ran.stderr}\n{name} is not proved")
-    line = libraries.verdict(ran.stdout)
+    said, status = said_with(name, {})
+    if status:
+        raise Failure("\n".join([*said, f"{name} is not proved"]))
+    line = libraries.verdict("\n".join(said))
     kept.write_text(f"{key} {line}\n")
     return line
 

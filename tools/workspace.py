@@ -29,7 +29,12 @@ def fill_streams():
 
 
 def tell(kind, why, trace):
-    """Says in one line what this machine lacks where that ends a tool: a checkout that can be written into, or a program."""
+    """Says in one line what this machine lacks where that ends a tool: a checkout that can be written into, or a program. Where nobody reads
+    what a tool prints, as after `| head`, it says nothing."""
+    if isinstance(why, BrokenPipeError):
+        # (what is left to print goes nowhere)
+        os.dup2(os.open(os.devnull, os.O_WRONLY), sys.stdout.fileno())
+        return
     name = str(getattr(why, "filename", None) or "")
     if isinstance(why, OSError) and why.errno in (errno.EROFS, errno.EACCES) and name.startswith(str(ROOT)):
         print(f"this needs a checkout that it can write into: {why}", file=sys.stderr)
@@ -139,9 +144,12 @@ def linked(source, target):
 
 
 @contextlib.contextmanager
-def room(name, changes_below=False):
+def room(name, texts=None):
     """Gives the folder of that crate in a room, which is there until the end of the block, with what was built below it and
-    the proofs that were cached of it. Where a crate below is to be changed too, those of all are there."""
+    the proofs that were cached of it. In the room some files have other texts, by their paths below crates/. Where one of
+    them is of a crate below, the cached proofs of all are there."""
+    texts = texts or {}
+    changes_below = any(not it.startswith(f"{name}/") for it in texts)
     with tempfile.TemporaryDirectory(prefix="room-", ignore_cleanup_errors=True) as top:
         top, names = pathlib.Path(top), with_those_below(name)
         (top / "crates.txt").write_text("".join(f"{line}\n" for line, it, _, _ in entries() if it in names))
@@ -154,6 +162,9 @@ def room(name, changes_below=False):
                 for kept in ["rlib", *["incremental"] * (it == name or changes_below)]:
                     if (source / "out" / kept).is_dir():
                         shutil.copytree(source / "out" / kept, target / "out" / kept, copy_function=linked)
+        for path, text in texts.items():
+            (top / "crates" / path).parent.mkdir(parents=True, exist_ok=True)
+            (top / "crates" / path).write_text(text, encoding="utf-8")
         yield top / "crates" / name
 
 

@@ -2,7 +2,7 @@
 import struct
 
 from browser import files, png
-from browser.driver import UP, until
+from browser.driver import UP
 from browser.models import by_model
 
 # A picture in which a cover of the default tile is larger than 16 pixels.

@@ -2,9 +2,9 @@
 """Shows that the tests refuse a call that is always out of memory.
 
 Every contract of a call that takes memory allows the result out of memory, so no planted bug of `must-fail/` can show
-such a call. The tests that use it are first run as they are, in a copy of the repository, and must pass. Then each case puts
+such a call. The tests that use it are first run as they are, in a room (tools/workspace.py), and must pass. Then each case puts
 that result at the head of one call, and runs these tests again: some must fail now, since a test returns out of memory as its
-result. Files of tests that use none of the calls are left out of the copy. The program for video and pictures is run with
+result. Files of tests that use none of the calls are left out. The program for video and pictures is run with
 each change on a small input, and must end with `fault memory`. (`built/frames.py` and `built/pictures.py` show that it ends well
 as it is.)
 """
@@ -14,8 +14,9 @@ import subprocess
 import sys
 
 sys.path.insert(0, str(pathlib.Path(__file__).resolve().parent.parent))
-from checking import Cases, changeable_copy
+from checking import ROOT, Cases
 from functions import with_function, with_head
+from workspace import room
 
 # No machine has so many bytes.
 NO_ROOM = "let _room: Vec<u8> = Vec::with_capacity(alloc, usize::MAX)?;"
@@ -63,60 +64,58 @@ RUNS = [
 FILES = {"imgref_hostile_tests": ("contiguous", "copies", "fixtures"), "imgref_replay_tests": ("commands", "fixtures")}
 
 
-def keep_tests(crate, files):
-    """Leaves all but these files of tests out of a crate."""
-    listed = crate / "src/tests.rt"
-    for name in re.findall(r"^mod (\w+);$", listed.read_text(), re.M):
-        if name not in files:
-            listed.write_text(listed.read_text().replace(f"mod {name};\n", ""))
-            (crate / f"src/tests/{name}.rt").unlink()
+def kept_tests(crate):
+    """The list of a crate's files of tests without those that none of the cases needs, where it has many."""
+    path, kept = f"{crate}/src/tests.rt", FILES.get(crate)
+    return {path: re.sub(r"(?m)^mod (\w+);\n", lambda it: it[0] if it[1] in kept else "", (ROOT / "crates" / path).read_text())} if kept else {}
 
 
-def tests_of(crate):
-    """How many tests of a crate pass and fail, or nothing where they are not run."""
-    said = subprocess.run(["rt", "try", "--test", "--seconds", "600"], cwd=crate, stdin=subprocess.DEVNULL, stdout=subprocess.PIPE, stderr=subprocess.STDOUT, text=True).stdout
+def with_heads(crate, file, heads):
+    """The text of that file of a crate in which these functions begin with these statements. Raises ValueError where one can't."""
+    path = f"{crate}/src/{file}.rt"
+    text = (ROOT / "crates" / path).read_text()
+    for name, head in heads.items():
+        text = with_function(text, name, lambda it: with_head(it, head))
+    return {path: text}
+
+
+def tests_of(crate, texts):
+    """How many tests of a crate pass and fail with these texts in the place of files, or nothing where they are not run."""
+    with room(crate, kept_tests(crate) | texts) as made:
+        said = subprocess.run(["rt", "try", "--test", "--seconds", "600"], cwd=made, stdin=subprocess.DEVNULL, stdout=subprocess.PIPE, stderr=subprocess.STDOUT, text=True).stdout
     found = re.search(r"^test result: .* (\d+) passed; (\d+) failed", said, re.M)
     return tuple(map(int, found.groups())) if found else None
 
 
-def end_of(copy, given, words):
-    """How the program for video and pictures ends, and whether it wrote anything, or nothing where it is not run."""
-    file = copy / EDITS
-    file.write_text(" ".join(FILL) + "\n")
-    words = [str(file) if it == EDITS else it for it in words]
-    ran = subprocess.run(["rt", "try", "--", *words], cwd=copy / "crates/imgref_frames", input=given, capture_output=True)
+def end_of(texts, given, words):
+    """How the program for video and pictures ends with these texts, and whether it wrote anything, or nothing where it is not run."""
+    with room("imgref_frames", texts) as made:
+        (made / EDITS).write_text(" ".join(FILL) + "\n")
+        ran = subprocess.run(["rt", "try", "--", *words], cwd=made, input=given, capture_output=True)
     found = re.search(rb"^checked: ended status=(\d+)", ran.stderr, re.M)
     return (int(found[1]), bool(ran.stdout)) if found else None
 
 
-def found_in(path, name, head, look):
-    """What is found where that statement is at the head of that function, or why it can't be."""
-    whole = path.read_text()
+def tried(look, crate, file, heads):
+    """What is found where functions of a file begin with these statements, or why they can't."""
     try:
-        path.write_text(with_function(whole, name, lambda it: with_head(it, head)))
-        return look()
+        return look(with_heads(crate, file, heads))
     except ValueError as why:
         return str(why)
-    finally:
-        path.write_text(whole)
 
 
 def main():
     cases = Cases()
-    with changeable_copy() as copy:
-        for crate, files in FILES.items():
-            keep_tests(copy / "crates" / crate, files)
-        unchanged = {it: tests_of(copy / "crates" / it) for it in dict.fromkeys(case[-1] for case in CASES)}
-        for tests, found in unchanged.items():
-            cases.count(f"the tests of {tests} pass as they are", found and found[0] > 0 and found[1] == 0, f"passed and failed: {found}")
-        for crate, file, name, head, tests in CASES:
-            found = found_in(copy / f"crates/{crate}/src/{file}.rt", name, head, lambda: tests_of(copy / "crates" / tests))
-            was = unchanged[tests]
-            is_well = was and isinstance(found, tuple) and found[1] > was[1] and sum(found) == sum(was)
-            cases.count(f"{crate}::{name} that is always out of memory is refused by the tests of {tests}", is_well, f"passed and failed: {found}, and unchanged: {was}")
-        for crate, file, name, head, given, words in RUNS:
-            found = found_in(copy / f"crates/{crate}/src/{file}.rt", name, head, lambda: end_of(copy, given, words))
-            cases.count(f"{crate}::{name} that is always out of memory is told by imgref_frames", found == (OUT_OF_MEMORY, False), f"status, and whether it wrote: {found}")
+    unchanged = {it: tests_of(it, {}) for it in dict.fromkeys(case[-1] for case in CASES)}
+    for tests, found in unchanged.items():
+        cases.count(f"the tests of {tests} pass as they are", found and found[0] > 0 and found[1] == 0, f"passed and failed: {found}")
+    for crate, file, name, head, tests in CASES:
+        found, was = tried(lambda texts: tests_of(tests, texts), crate, file, {name: head}), unchanged[tests]
+        is_well = was and isinstance(found, tuple) and found[1] > was[1] and sum(found) == sum(was)
+        cases.count(f"{crate}::{name} that is always out of memory is refused by the tests of {tests}", is_well, f"passed and failed: {found}, and unchanged: {was}")
+    for crate, file, name, head, given, words in RUNS:
+        found = tried(lambda texts: end_of(texts, given, words), crate, file, {name: head})
+        cases.count(f"{crate}::{name} that is always out of memory is told by imgref_frames", found == (OUT_OF_MEMORY, False), f"status, and whether it wrote: {found}")
     return cases.end()
 
 

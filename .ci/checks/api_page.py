@@ -1,5 +1,5 @@
 #!/usr/bin/env python3
-"""docs/API.md is what `make docs` writes, and it is whole with the page that isn't kept, out/INNER.md.
+"""docs/API.md and docs/CRATES.md are what `make docs` writes, and the first is whole with the page that isn't kept, out/INNER.md.
 
 docs/API.md is compared with what tools/api_page.py makes of the code today; the other page is made anew. Each public function of
 the crates is on one of both, as a search of the files by words alone finds them. Each that docs/API.md leaves out is on the
@@ -13,6 +13,7 @@ sys.path.insert(0, str(pathlib.Path(__file__).resolve().parent.parent))
 from checking import ROOT, Cases
 
 import api_page
+import crates_page
 
 FUNCTION = re.compile(r"^(?: {4})?pub (?:const )?fn (\w+)", re.MULTILINE)
 LABEL = re.compile(r"^\[([\w.]+)\]: (?:#(\S+)|([^\s#]+)(?:#L(\d+))?)$", re.MULTILINE)
@@ -53,6 +54,7 @@ def main():
     texts = {name: api_page.Page(name).text() for name in api_page.PAGES}
     kept = (ROOT / api_page.API).read_text() if (ROOT / api_page.API).exists() else ""
     cases.count(f"{api_page.API} is fresh", kept == texts[api_page.API], "it isn't what `make docs` writes today")
+    cases.count(f"{crates_page.PAGE} is fresh", (ROOT / crates_page.PAGE).read_text() == crates_page.text(), "it isn't what `make docs` writes today")
     for name, text in texts.items():
         lost = [f"  {it}" for it in lost_links(ROOT / name, text)]
         cases.count(f"{name}: {len(LABEL.findall(text))} words lead to their definitions", not lost, "\n".join(lost))

@@ -12,86 +12,51 @@ import sys
 sys.path.insert(0, str(pathlib.Path(__file__).resolve().parent.parent))
 from checking import ROOT, Cases
 
+import api_page
+from items import read, subject
+
 CRATES = ["imgref", "image_tiles", "image_commands", "imgref_replay"]
-ITEM = re.compile(r"( *)(pub )?(fn|struct|enum|trait|type) (\w+)")
-BLOCK = re.compile(r"(?:pub )?(trait|impl)\b(.*)")
-CLAUSE = re.compile(r" *(?:requires|ensures)\b")
+DOCUMENTED = ("fn", "struct", "enum", "trait", "type")
 MEMBER = re.compile(r" +(?:pub )?(\w+)(?:: .*,| \{|\(.*\),|,)$")
 
 
-def told(lines, at):
-    """The `///` lines above a line."""
-    above = []
-    while at and re.match(r" *(///|#\[)", lines[at - 1]):
-        at -= 1
-        above.append(lines[at].strip())
-    return [it for it in above if it.startswith("///")]
+def lacks(item, told):
+    """What the lines of a function leave out: its own, or those of its block too."""
+    if "# Requires" not in told and any(it.kind == "requires" for it in item.clauses):
+        yield f"{item.name} has a condition and no `# Requires`"
+    if "# Errors" not in told and re.search(r"-> *Result<", "\n".join(item.head)):
+        yield f"{item.name} returns a Result and has no `# Errors`"
 
 
-def signature(lines, at):
-    """The lines of a function up to its body, or to the end of its declaration."""
-    for end in range(at, len(lines)):
-        if lines[end].strip() == "{" or lines[end].endswith(";") or lines[end].endswith(" {") and not CLAUSE.match(lines[end]):
-            return lines[at : end + 1]
-    return lines[at:]
+def undocumented(item):
+    """The public fields and the variants of a type that have no lines."""
+    before = ""
+    for line in api_page.fields(item) if item.kind in ("struct", "enum") else ():
+        named = MEMBER.match(line)
+        if named and not before.strip().startswith("///"):
+            yield f"{item.name}::{named[1]} isn't documented"
+        before = line if not line.strip().startswith("#[") else before
 
 
-def members(lines, at, indent):
-    """The fields and variants of a struct or an enum, those of ghost fields and private ones left out."""
-    is_struct = "struct" in lines[at]
-    for it in range(at + 1, len(lines)):
-        if lines[it].startswith(f"{indent}}}"):
-            return
-        named = MEMBER.match(lines[it])
-        if named and not re.match(r" *(ghost|//|#)", lines[it]) and (not is_struct or " pub " in f" {lines[it].strip()} ".replace("pub(", "")):
-            yield it, named.group(1)
-
-
-def lacks(told_of, head, label):
-    """What a function's lines leave out."""
-    text = "\n".join(head)
-    answer = re.search(r"-> *Result<", text)
-    if not told_of:
-        yield f"{label} isn't documented"
-    if re.search(r"^ *requires\b", text, re.MULTILINE) and "/// # Requires" not in told_of:
-        yield f"{label} has a condition and no `# Requires`"
-    if answer and "/// # Errors" not in told_of:
-        yield f"{label} returns a Result and has no `# Errors`"
-
-
-def faults(path):
-    lines = path.read_text().splitlines()
-    block, of_block = "", []
-    for at, line in enumerate(lines):
-        opened = BLOCK.match(line)
-        if opened:
-            # (an impl of a trait, a trait, or an impl of a type's own calls)
-            block = "trait" if opened.group(1) == "trait" else "for" if re.search(r"\bfor\b", opened.group(2)) else "own"
-            of_block = told(lines, at)
-        item = ITEM.match(line)
-        label = f"{path.relative_to(ROOT)}:{at + 1}: {item.group(4) if item else ''}"
-        if not item or re.match(r" *pub\(", line):
-            continue
-        indent, is_public, kind = item.group(1), item.group(2), item.group(3)
-        if kind == "fn" and (is_public or indent and block in ("trait", "for")):
-            head = signature(lines, at)
-            said = told(lines, at) + (of_block if block == "for" else [])
-            if block != "for" or any(re.match(r" *requires\b", it) for it in head):
-                yield from lacks(said, head, label)
-        elif is_public and not told(lines, at):
-            yield f"{label} isn't documented"
-        if is_public and kind in ("struct", "enum") and line.endswith("{"):
-            for inner, name in members(lines, at, indent):
-                if not told(lines, inner):
-                    yield f"{path.relative_to(ROOT)}:{inner + 1}: {item.group(4)}::{name} isn't documented"
+def faults(item, block=None):
+    """What an item, and those inside it, leave out."""
+    is_shown = item.is_public or item.kind == "fn" and block and block.kind == "trait"
+    # (what a function of a trait does is told by the trait, and its conditions perhaps above the impl)
+    of_trait = block and block.kind == "impl" and subject(block)[1]
+    if item.kind in DOCUMENTED and is_shown and not of_trait:
+        yield from [f"{item.name} isn't documented"] * (not item.told) + [*undocumented(item)]
+    if item.kind == "fn" and (is_shown or of_trait and any(it.kind == "requires" for it in item.clauses)):
+        yield from lacks(item, [*item.told, *(block.told if of_trait else [])])
+    for it in item.members:
+        yield from faults(it, item)
 
 
 def main():
     cases = Cases()
     for crate in CRATES:
         for path in sorted((ROOT / "crates" / crate / "src").glob("*.rt")):
-            found = list(faults(path))
-            cases.count(str(path.relative_to(ROOT)), not found, "\n".join(f"  {it}" for it in found))
+            found = [f"  line {it.line + 1}: {fault}" for it in read(path.read_text().splitlines()) for fault in faults(it)]
+            cases.count(str(path.relative_to(ROOT)), not found, "\n".join(found))
     return cases.end()
 
 

@@ -1,25 +1,23 @@
 #!/usr/bin/env python3
-"""The figures of the documents: the commit on which they were measured, and that what is said of the tables is in the tables.
-
-    figures.py            compares
-    figures.py --write    writes the numbers of FIGURES into the pages: after `make bench BENCH=--write`
+"""The figures of the documents: the commit on which they were measured, and what the pages say of their tables.
 
 Each page of PAGES says 'Measured on commit `HASH`' before its tables. A page without it fails, and so does a commit that isn't in
 this history.
 How old a figure may be is for a reader to decide, so the number of commits since is printed, and fails nothing.
 
 A row of FIGURES is a page, how the page says some numbers (each is `{}`), and what they are by the tables of docs/PERFORMANCE.md and
-bench/tables.md. A page that says it otherwise fails. So do other numbers.
+bench/tables.md. `make docs` writes them, and page_numbers.py tells whether they are fresh.
 """
 import functools
 import pathlib
 import re
 import shutil
-import subprocess
 import sys
 
 sys.path.insert(0, str(pathlib.Path(__file__).resolve().parents[1]))
 from checking import ROOT, Cases
+
+from changed import git
 from workspace import with_those_below
 
 # The pages with figures, and the crates that are timed there, with those below them.
@@ -130,39 +128,11 @@ SLOWEST = {
 }
 
 
-def pattern(said):
-    return re.compile(re.escape(said).replace(r"\{\}", r"(\d+(?:\.\d+)?)"))
-
-
-def compare(cases):
-    """Each row of FIGURES."""
-    for page, said, made in FIGURES:
-        due, found = made(), pattern(said).findall((ROOT / page).read_text())
-        found = [it if isinstance(it, tuple) else (it,) for it in found]
-        cases.count(f"{page}: {said.format(*due)}", found == [due], f"  the page says {found or 'it otherwise'}")
-    said = SLOWEST.get(call_of_most(), f"no sentence of SLOWEST for {call_of_most()}")
-    cases.count(f"README.md: {said}", said in (ROOT / "README.md").read_text())
-
-
-def write():
-    """Puts the numbers of FIGURES into the pages."""
-    for page, said, made in FIGURES:
-        text = (ROOT / page).read_text()
-        (ROOT / page).write_text(pattern(said).sub(lambda _: said.format(*made()), text))
-
-
-def git(*words):
-    """The output of a command of git here, or nothing where it fails."""
-    if not shutil.which("git"):
-        return None
-    ran = subprocess.run(["git", "-C", ROOT, *words], capture_output=True, text=True)
-    return ran.stdout.strip() if ran.returncode == 0 else None
-
-
 def ages(cases):
     """The commit of each page, and how many have changed the timed crates since."""
-    if git("rev-parse", "--is-shallow-repository") != "false":
-        cases.skip("the commits of figures", "history" if shutil.which("git") else "git", number=len(PAGES))
+    has_git = bool(shutil.which("git"))
+    if not has_git or git("rev-parse", "--is-shallow-repository") != "false\n":
+        cases.skip("the commits of figures", "history" if has_git else "git", number=len(PAGES))
         cases.count("the pages with figures are there", all((ROOT / it).is_file() for it in PAGES))
         return
     for page, timed in PAGES.items():
@@ -172,19 +142,17 @@ def ages(cases):
             is_here = git("merge-base", "--is-ancestor", commit, "HEAD") is not None
             cases.count(f"{page}: {commit} is a commit of this history", is_here)
             sources = sorted({f"crates/{it}/src" for name in timed for it in with_those_below(name)})
-            since = git("rev-list", "--count", f"{commit}..HEAD", "--", *sources) if is_here else "an unknown number of"
+            since = git("rev-list", "--count", f"{commit}..HEAD", "--", *sources).strip() if is_here else "an unknown number of"
             print(f"{page}: {since} commits have changed the timed crates since {commit}")
 
 
-def main(words):
-    if words == ["--write"]:
-        write()
-        tables.cache_clear()
+def main():
     cases = Cases()
-    compare(cases)
+    said = SLOWEST.get(call_of_most(), f"no sentence of SLOWEST for {call_of_most()}")
+    cases.count(f"README.md: {said}", said in (ROOT / "README.md").read_text())
     ages(cases)
     return cases.end()
 
 
 if __name__ == "__main__":
-    sys.exit(main(sys.argv[1:]))
+    sys.exit(main())

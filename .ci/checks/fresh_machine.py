@@ -30,7 +30,7 @@ STARTED = re.compile(r"""(?:which|lacks|run|Popen|command|run_to_end|first)\(\[?
 # The tools that a person starts, with words that do something.
 ENTRIES = (
     "tools/program.py try", "tools/program.py run", "tools/setup.py", "tools/c_library.py build", "tools/python_package.py build", "tools/web.py build", "tools/release.py build",
-    "tools/times.py", "tools/bench.py", "tools/api_page.py", "tools/exports.py", ".ci/gate.py test", ".ci/gate.py gate", ".ci/tests.py", ".ci/planted_bugs.py", ".ci/checks/links.py",
+    "tools/times.py", "tools/bench.py", "tools/api_page.py", "tools/crates_page.py", "tools/exports.py", ".ci/gate.py test", ".ci/gate.py gate", ".ci/tests.py", ".ci/planted_bugs.py", ".ci/checks/links.py",
 )  # fmt: skip
 NEEDS_RATTLE = ("tools/program.py try", "tools/program.py run", "tools/program.py build imgref_frames", "tools/c_library.py build", "tools/python_package.py build", "tools/times.py", ".ci/gate.py check", ".ci/gate.py test", ".ci/gate.py gate", ".ci/tests.py")
 # Runs a tool as Python 3.9 would.

@@ -1,13 +1,14 @@
 #!/usr/bin/env python3
-"""The numbers that pages take from the tree are those of the tree.
+"""The numbers that pages take from the tree and from its tables are those that `make docs` writes.
 
-A row of NUMBERS has the pages, how a page says the number, and where the number comes from: a count, or a constant of a source.
-Each such number in these pages is compared, and one of the pages says it. How many functions are proved is known only to a run of
+    page_numbers.py            whether the pages are fresh
+    page_numbers.py --write    writes the numbers, as `make docs` does
+
+A row of NUMBERS, and of FIGURES in figures.py, has the pages, how a page says some numbers (each is `{}`), and where they come from: a count,
+a constant of a source, or a table. One of the pages says so. How many functions are proved is known only to a run of
 the gate. So README.md says 'More than N', and N is no more than the functions with a contract that the sources have: the gate
 proves each of them. A page says of a command how many minutes it takes, and what `.ci/gate.py` prints for it lies within. In a
-table of examples, a proof file has as many lines as the page says. docs/ARCHITECTURE.md names each crate, each one above those
-that it depends on. `page_numbers.py --write` writes the numbers of NUMBERS, as `make docs` does. (A script named `numbers` would hide
-a module of Python.)
+table of examples, a proof file has as many lines as the page says. (A script named `numbers` would hide a module of Python.)
 """
 import pathlib
 import re
@@ -15,10 +16,11 @@ import sys
 
 sys.path.insert(0, str(pathlib.Path(__file__).resolve().parent.parent))
 import always_memory
+import figures
+import functions
 import gate
 import sentences
 from checking import ROOT, Cases, crates
-from functions import HEAD
 
 CONSTANT = r"\b{}\b[^=\n]*= (?:[A-Z_, ]+ = )?([\d_.]+)(?:e(\d+)| << (\d+))?"
 # A line that begins with a command, and its minutes.
@@ -52,71 +54,75 @@ def bugs():
 
 
 def with_contracts():
-    """How many functions have a clause and a body."""
-    return sum(has_contract(text.split("\n"), at) for text in sources() for at, line in enumerate(text.split("\n")) if HEAD.match(line))
-
-
-def has_contract(lines, head):
-    """Whether the function at that line has a clause before its body."""
-    for it in lines[head + 1 :]:
-        if re.match(r" *(?:requires|ensures)\b", it):
-            return True
-        if it.endswith("{") or HEAD.match(it) or not it.strip():
-            return False
-    return False
+    """How many functions have a clause."""
+    return sum(bool(it.clauses) for text in sources() for it, _ in functions.functions(text))
 
 
 ALL = [*ROOT.glob("*.md"), *(it for it in (ROOT / "docs").glob("*.md") if it.name not in sentences.WRITTEN), *(ROOT / "bindings/python").glob("*.md")]
 FRAMES, SPANS = "crates/frame_runs/src", "crates/image_planes/src/spans.rt"
 WINDOWS, NESTED = "crates/imgref_hostile_tests/src/tests/windows.rt", "crates/imgref_replay_tests/src/tests/nested.rt"
-# The pages (all, where none is named), how a page says a number N, and the number.
+# The pages (all, where none is named), how a page says a number, and the number.
 NUMBERS = [
-    ((), "{N} tests ·", tests),
-    ((), "{N} planted bugs refused", bugs),
-    (("docs/ARCHITECTURE.md",), "{N} crates", lambda: len(crates())),
-    (("docs/WEB.md",), "at most {N} bytes", lambda: constant(".ci/checks/proofs/web.py", "MOST_BYTES")),
-    (("docs/WEB.md",), "{N} pixels on a side", lambda: constant("web/open.js", "MOST_SIDE")),
-    (("docs/WEB.md",), "{N} million in all", lambda: constant("web/open.js", "MOST_PIXELS") / 1e6),
-    (("docs/FRAMES.md",), "at most {N} bytes, including its line feed", lambda: constant(f"{FRAMES}/program.rt", "LONGEST")),
-    (("docs/FRAMES.md",), "{N} (1 GiB)", lambda: constant("crates/frame_requests/src/options.rt", "LIMIT")),
-    (("docs/GLOSSARY.md",), "{N} steps of a plane", lambda: constant(SPANS, "BLOCK")),
-    (("docs/DECISIONS.md",), "block of {N} steps", lambda: constant(SPANS, "BLOCK")),
-    (("docs/PROMISES.md",), "{N} random scripts", lambda: constant(".ci/checks/built/scripts.py", "COUNT")),
-    (("docs/PROMISES.md",), "{N} windows of an image of nine cells", lambda: number_in(WINDOWS, r"for number in 0\.\.(\d+)usize")),
-    (("docs/PROMISES.md",), "{N} of these windows are inside", lambda: number_in(WINDOWS, r"inside == (\d+)\)")),
-    (("docs/PROMISES.md",), "{N} pairs of a window in a window", lambda: number_in(NESTED, r"pairs == (\d+)\)")),
-    (("docs/PROMISES.md",), "makes {N} calls do so", lambda: len(always_memory.CASES) + len(always_memory.RUNS)),
-    (("CONTRIBUTING.md",), "more than {N} words", lambda: sentences.MOST_WORDS),
-    (("CONTRIBUTING.md",), "{N} % more", lambda: round(100 * constant(".ci/checks/built/instructions.py", "MARGIN") - 100)),
+    ((), "{} tests ·", tests),
+    ((), "{} planted bugs refused", bugs),
+    (("docs/ARCHITECTURE.md",), "{} crates", lambda: len(crates())),
+    (("docs/WEB.md",), "at most {} bytes", lambda: constant(".ci/checks/proofs/web.py", "MOST_BYTES")),
+    (("docs/WEB.md",), "{} pixels on a side", lambda: constant("web/open.js", "MOST_SIDE")),
+    (("docs/WEB.md",), "{} million in all", lambda: constant("web/open.js", "MOST_PIXELS") / 1e6),
+    (("docs/FRAMES.md",), "at most {} bytes, including its line feed", lambda: constant(f"{FRAMES}/program.rt", "LONGEST")),
+    (("docs/FRAMES.md",), "{} (1 GiB)", lambda: constant("crates/frame_requests/src/options.rt", "LIMIT")),
+    (("docs/GLOSSARY.md",), "{} steps of a plane", lambda: constant(SPANS, "BLOCK")),
+    (("docs/DECISIONS.md",), "block of {} steps", lambda: constant(SPANS, "BLOCK")),
+    (("docs/PROMISES.md",), "{} random scripts", lambda: constant(".ci/checks/built/scripts.py", "COUNT")),
+    (("docs/PROMISES.md",), "{} windows of an image of nine cells", lambda: number_in(WINDOWS, r"for number in 0\.\.(\d+)usize")),
+    (("docs/PROMISES.md",), "{} of these windows are inside", lambda: number_in(WINDOWS, r"inside == (\d+)\)")),
+    (("docs/PROMISES.md",), "{} pairs of a window in a window", lambda: number_in(NESTED, r"pairs == (\d+)\)")),
+    (("docs/PROMISES.md",), "makes {} calls do so", lambda: len(always_memory.CASES) + len(always_memory.RUNS)),
+    (("CONTRIBUTING.md",), "more than {} words", lambda: sentences.MOST_WORDS),
+    (("CONTRIBUTING.md",), "{} % more", lambda: round(100 * constant(".ci/checks/built/instructions.py", "MARGIN") - 100)),
 ]
 
 
-def numbers():
-    """For each row of NUMBERS: its pages, how they say the number, the pattern of that, and the number."""
+def rows():
+    """For each row: its pages by name and as paths, how they say its numbers, and these as texts."""
     for names, said, made in NUMBERS:
-        yield [ROOT / it for it in names] or ALL, names, said, re.escape(said).replace(re.escape("{N}"), r"\b(\d[\d,]*)"), int(made())
+        yield names, [ROOT / it for it in names] or ALL, said, [str(int(made()))]
+    for name, said, made in figures.FIGURES:
+        yield (name,), [ROOT / name], said, made()
+
+
+def says(text, said):
+    """Each place where a text says so, with numbers."""
+    return re.finditer(re.escape(said).replace(r"\{\}", r"\b(\d[\d,]*(?:\.\d+)?)"), text)
+
+
+def with_numbers(text, said, due):
+    """A text that says so with these numbers, which have commas where its own have some."""
+    for found in reversed([*says(text, said)]):
+        for at, number in reversed([*enumerate(due, 1)]):
+            text = text[: found.start(at)] + (f"{int(number):,}" if "," in found[at] else number) + text[found.end(at) :]
+    return text
 
 
 def write():
-    """Writes each number of NUMBERS into its pages, with commas where they have some."""
-    for pages, _, _, pattern, due in numbers():
+    """Writes each number into its pages."""
+    for _, pages, said, due in rows():
         for page in pages:
             text = page.read_text()
-            new = re.sub(pattern, lambda it: it[0].replace(it[1], f"{due:,}" if "," in it[1] else str(due), 1), text)
-            if new != text:
+            if (new := with_numbers(text, said, due)) != text:
                 page.write_text(new)
-                print(f"{page.relative_to(ROOT)}: {due}")
+                print(f"{page.relative_to(ROOT)}: {said.format(*due)}")
 
 
-def same_numbers(cases):
-    """Each number of NUMBERS."""
-    for pages, names, said, pattern, due in numbers():
-        found = [int(it.replace(",", "")) for page in pages for it in re.findall(pattern, page.read_text())]
-        label = f"{' '.join(names) or 'pages'}: {said.format(N=due)}"
-        cases.count(label, found and {*found} == {due}, f"  the pages say {found or 'no such number'}")
+def are_fresh(cases):
+    """Each row: a page says so, and all that do are what `make docs` writes."""
+    for names, pages, said, due in rows():
+        texts = [it.read_text() for it in pages]
+        is_well = any(True for it in texts for _ in says(it, said)) and all(with_numbers(it, said, due) == it for it in texts)
+        cases.count(f"{' '.join(names) or 'pages'}: {said.format(*due)}", is_well, "  it isn't what `make docs` writes today, or no page says it")
 
 
-def functions(cases):
+def proved(cases):
     """README.md doesn't say more functions than have a contract."""
     found, most = re.search(r"More than ([\d,]+) functions", (ROOT / "README.md").read_text()), with_contracts()
     said = int(found[1].replace(",", "")) if found else 0
@@ -148,23 +154,12 @@ def proof_lines(cases):
                 cases.count(f"{page.name}: {names.strip()}: an {kind} of {lines} lines", int(lines) in found, f"  there are {found}")
 
 
-def layers(cases):
-    """docs/ARCHITECTURE.md names each crate, and in its first table a crate depends only on those of later rows."""
-    text = (ROOT / "docs/ARCHITECTURE.md").read_text()
-    missing = [it for it in crates() if f"`{it}`" not in text]
-    cases.count("docs/ARCHITECTURE.md names each crate", not missing, f"  not named: {missing}")
-    rows = re.findall(r"(?m)^\| `(\w+)`", re.search(r"(?ms)^\| Crate .*?^$", text)[0])
-    wrong = [(it, below) for at, it in enumerate(rows) for below in crates()[it] if below not in rows[at + 1 :]]
-    cases.count(f"docs/ARCHITECTURE.md: the order of {len(rows)} crates", rows and not wrong, f"  not in later rows: {wrong}")
-
-
 def main():
     cases = Cases()
-    same_numbers(cases)
-    functions(cases)
+    are_fresh(cases)
+    proved(cases)
     minutes(cases)
     proof_lines(cases)
-    layers(cases)
     return cases.end()
 
 

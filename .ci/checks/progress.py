@@ -55,9 +55,10 @@ def shown(lines):
 
 
 def recorded():
-    """The lines that were recorded."""
+    """The lines that were recorded, except those of crates that are gone."""
+    known = all_below([PROGRAM])
     rows = (line.split(maxsplit=2) for line in RECORDED.read_text(encoding="utf-8").splitlines() if not line.startswith("#"))
-    return [(float(second), crate, what) for second, crate, what in rows]
+    return [(float(second), crate, what) for second, crate, what in rows if crate in known]
 
 
 def record():

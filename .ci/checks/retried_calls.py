@@ -3,15 +3,14 @@
 kind, and a flush that never reaches the device.
 
 A contract says which errors a call may end with, and not that it may only end with the device's own. The tests are first run as
-they are, in a copy of the repository, and must pass. Then a bug is planted at the head of each call, and the test of each must fail.
+they are, in a room (tools/workspace.py), and must pass. Then a bug is planted at the head of each call, and the test of each must fail.
 """
 import pathlib
 import sys
 
 sys.path.insert(0, str(pathlib.Path(__file__).resolve().parent.parent))
-from always_memory import tests_of
-from checking import Cases, changeable_copy
-from functions import with_function, with_head
+from always_memory import tests_of, tried
+from checking import Cases
 
 # The crate whose tests are run.
 TESTS = "imgref_run"
@@ -28,18 +27,12 @@ CASES = [
 
 def main():
     cases = Cases()
-    with changeable_copy() as copy:
-        path = copy / "crates/devices/src/retried.rt"
-        whole = path.read_text()
-        was = tests_of(copy / "crates" / TESTS)
-        cases.count(f"the tests of {TESTS} pass as they are", was and was[0] > 0 and was[1] == 0, f"passed and failed: {was}")
-        for what, bodies in CASES:
-            text = whole
-            for (name, call), body in zip(CALLS.items(), bodies, strict=True):
-                text = with_function(text, name, lambda it: with_head(it, body.format(call=call)))
-            path.write_text(text)
-            found = tests_of(copy / "crates" / TESTS)
-            cases.count(f"{what}: each is refused by a test", was and found == (was[0] - len(CALLS), len(CALLS)), f"passed and failed: {found}, and unchanged: {was}")
+    was = tests_of(TESTS, {})
+    cases.count(f"the tests of {TESTS} pass as they are", was and was[0] > 0 and was[1] == 0, f"passed and failed: {was}")
+    for what, bodies in CASES:
+        heads = {name: body.format(call=call) for (name, call), body in zip(CALLS.items(), bodies, strict=True)}
+        found = tried(lambda texts: tests_of(TESTS, texts), "devices", "retried", heads)
+        cases.count(f"{what}: each is refused by a test", was and found == (was[0] - len(CALLS), len(CALLS)), f"passed and failed: {found}, and unchanged: {was}")
     return cases.end()
 
 

@@ -15,7 +15,7 @@ Each page has its words: LIMITS has the most that it may have, counted as by `wc
     sentences.py --loose     the loose sentences
 
 No document, no comment and no text within quotes of a source has a word of TICS: each such line is shown with the better word.
-The page of WRITTEN is left out, since a tool makes it from the lines of the code.
+The pages of WRITTEN are left out, since tools make them from the lines of the code.
 
 A sentence is loose where it begins with a word of POINTS after a sentence with two nouns: a reader may not see which one is meant.
 Most are clear all the same, so no single one fails. Their number has a limit, MOST_LOOSE, which may only fall: a list that fails
@@ -41,7 +41,7 @@ LIMITS = {
     "CONTRIBUTING.md": 2360,
     "bindings/python/README.md": 300,
     "bindings/rust/README.md": 450,
-    "docs/ARCHITECTURE.md": 1500,
+    "docs/ARCHITECTURE.md": 850,
     "docs/C.md": 1670,
     "docs/CALLERS.md": 1200,
     "docs/CALLERS_REFERENCE.md": 3650,
@@ -75,8 +75,8 @@ TRIED = f"""{"It is one word more. " * 6}
 """
 # How many sentences of the documents may be loose.
 MOST_LOOSE = 10
-# The page that `make docs` writes, whose sentences are those of the code.
-WRITTEN = {"API.md"}
+# The pages that `make docs` writes, whose sentences are those of the code.
+WRITTEN = {"API.md", "CRATES.md"}
 # What is searched for odd words besides the documents: their comments and their texts within quotes.
 SOURCES = ["Makefile", "crates/*/src/**/*.rt", "crates/*/specs/**/*.antt", "crates/*/proofs/**/*.antt", "tools/*.py", ".ci/**/*.py"]
 SOURCES += ["programs/**/*.py", "programs/imgref-hide", ".ci/c/*.[ch]", "include/*.h", "bench/*.[cr]*", "examples/**/*.[chpr]*", "include/*.hpp", "bindings/**/*.[hpr]*", "man/*", "web/*.*"]

@@ -12,13 +12,14 @@ is no longer proved fails too: it would show nothing of a count.
 Counting takes minutes for each body, so it is no part of the gate. Run it when a job, a limit or the body of a timed call changes.
 """
 import pathlib
+import re
 import shutil
 import sys
 
 sys.path[:0] = [str(pathlib.Path(__file__).resolve().parents[1]), str(pathlib.Path(__file__).resolve().parent / "built")]
 from checking import Cases
 
-from bugs import applied
+from bugs import applied, pairs_of
 from instructions import MARGIN, counted, jobs, written
 from processes import end_on_signals
 from proving import Progress, command_of, prove_changed, run, weights_of
@@ -31,19 +32,9 @@ COUNTS = {"instructions": 0, "misses": 1}
 
 def read(path):
     """The crate that a body changes, the job and the count that it must fail, and its pairs of old and new text by file."""
-    said, file, old, pairs = {}, None, None, []
-    for line in path.read_text(encoding="utf-8").splitlines():
-        word, _, text = line.partition(": ")
-        if word == "file":
-            file = text
-        elif word == "old":
-            old = text
-        elif word == "new":
-            pairs.append((file, old, text))
-        else:
-            said[word] = text
-    job, what = said["count"].split()
-    return said["crate"], job, what, pairs
+    text = path.read_text(encoding="utf-8")
+    crate, job, what = re.search(r"(?m)^crate: (\S+)$", text)[1], *re.search(r"(?m)^count: (\S+) (\S+)$", text).groups()
+    return crate, job, what, pairs_of(text)
 
 
 def planted(crate, pairs):
@@ -56,9 +47,7 @@ def counts_with(crate, job, texts):
     """What a job takes with the body, or nothing where it is not proved; and what was said then."""
     program, words = jobs()[job]
     lines = []
-    with room(program, changes_below=True) as made:
-        for file, text in texts.items():
-            (made.parent / crate / file).write_text(text, encoding="utf-8")
+    with room(program, {f"{crate}/{file}": text for file, text in texts.items()}) as made:
         if run(command_of(program), made, lines.append):
             return None, "".join(lines[-20:])
         return counted(made / "out" / program, job, words), ""

@@ -4,18 +4,17 @@ reach outside.
 
 A model that shares nothing with the program says what is written. Both builds are run that `rt ci` leaves.
 """
-import math
 import pathlib
 import random
 import sys
 import tempfile
-from fractions import Fraction
 
 sys.path.insert(0, str(pathlib.Path(__file__).resolve().parents[2]))
 from checking import Cases, both_builds
-from edits import Fault, edits_of
+from edits import edits_of
 from frames import answer
-from tries import STATUS, ends, lines_said, without_note
+from tracked import SIZE, TEXTS, by_model, count_lists, differing, options, run, tracks, video
+from tries import ends, lines_said, without_note
 
 # A line that is refused, and what is said of it.
 REFUSED = (
@@ -52,103 +51,23 @@ REFUSED = (
 )
 
 
-def video(sampling, interlaced=b"p", frames=12, size=(13, 9)):
-    """Small frames with pixels by chance."""
-    chance, (wide, high) = random.Random(str(sampling)), size
-    x, y = {b"mono": (0, 0), b"420jpeg": (2, 2), b"422": (2, 1), b"411": (4, 1), b"444": (1, 1)}[sampling]
-    cells = wide * high + (2 * -(-wide // x) * -(-high // y) if x else 0)
-    return b"YUV4MPEG2 W%d H%d F25:1 I%s C%s\n" % (wide, high, interlaced, sampling) + b"".join(b"FRAME\n" + chance.randbytes(cells) for _ in range(frames))
-
-
-COVER = ("cover", [])
-
-
-def side(start, extent):
-    """The first pixel that is touched, which may be before the frame, and how many are."""
-    first = math.floor(Fraction(start))
-    return first, math.ceil(Fraction(start) + Fraction(extent)) - first
-
-
-def covers(lines, style=COVER, margin=None):
-    """The edits that lines become: this, with a margin."""
-    found = []
-    for line in lines:
-        frame, _, *box = line.split(",")[:6]
-        across, down = side(box[0], box[2]), side(box[1], box[3])
-        found.append((int(frame) - 1, int(frame), "box", [across[0], down[0], across[1], down[1], margin], style))
-    return found
-
-
-def tracks(chance, frames, text, size=(13, 9)):
-    """The lines of some tracks that move about, with gaps. Some are outside for a while."""
-    lines = []
-    for number in range(4):
-        left, top = chance.uniform(-6, size[0]), chance.uniform(-6, size[1])
-        width, height = chance.uniform(0, 7), chance.uniform(0, 7)
-        for frame in range(1, frames + 1):
-            left, top = left + chance.uniform(-3, 3), top + chance.uniform(-3, 3)
-            if chance.random() < 0.7:
-                lines.append(f"{frame},{number},{','.join(text(it) for it in (left, top, width, height))},0.9,-1,-1,-1")
-    chance.shuffle(lines)
-    return lines
-
-
-def run(program, lines, words, data, ending="\n"):
-    with tempfile.NamedTemporaryFile("w", suffix=".txt", newline="") as listed:
-        listed.write(ending.join(lines) + ending)
-        listed.flush()
-        return ends(program, ["--boxes", listed.name, *words], data), lines_said(program, ["--boxes", listed.name, *words], data)
-
-
-def by_model(data, lines, words=(), style=COVER, margin=None):
-    """What is to be written: the boxes are first."""
-    try:
-        return answer(data, covers(lines, style, margin) + edits_of(words)), "", 0
-    except Fault as fault:
-        return fault.written, f"fault {fault.name}", STATUS[fault.name.split()[0]]
-
-
-def differing(program, data, lines, words=(), ending="\n", written=None):
-    """What is wrong with these lines, or none."""
-    said, _ = run(program, written or lines, words, data, ending)
-    right = by_model(data, lines, list(words))
-    return None if without_note(*said) == right else f"{said[1:]} in the place of {right[1:]} for {words} and\n" + "\n".join(lines)
-
-
-TEXTS = {
-    "two digits": lambda number: f"{number:.2f}",
-    "all digits of a float": lambda number: repr(number if abs(number) > 0.001 else 0.5),
-    "whole numbers": lambda number: str(round(number)).replace("-0", "0") if round(number) == 0 else str(round(number)),
-    "halves": lambda number: str(round(number * 2) / 2),
-    "twenty digits": lambda number: f"{number:.20f}",
-}
+# Each kind of a video: its sampling, and whether its frames are interlaced.
+KINDS = (("mono", b"Ip"), ("420jpeg", b"Ip"), ("420jpeg", b"It"), ("422", b"Ip"), ("411", b"Ip"), ("444", b"Ip"))
 
 
 def by_tracks(cases, program):
     for name, text in TEXTS.items():
-        wrong = []
-        for seed, (sampling, interlaced) in enumerate([(b"mono", b"p"), (b"420jpeg", b"p"), (b"420jpeg", b"t"), (b"422", b"p"), (b"411", b"p"), (b"444", b"p")] * 4):
-            lines = [it.replace("--0", "-0") for it in tracks(random.Random(seed), 12, text)]
-            lines = [it for it in lines if not any(size.startswith("-") for size in it.split(",")[4:6])]
-            wrong.append(differing(program, video(sampling, interlaced), lines))
-        cases.count(f"made tracks in {name} are covered as the model says", not any(wrong), "\n".join(filter(None, wrong))[:3000])
+        count_lists(cases, f"made tracks in {name} are covered as the model says", [differing(program, video(sampling, fields=fields), tracks(random.Random(seed), text)) for seed, (sampling, fields) in enumerate(KINDS * 4)])
     pictures = b"".join(b"P5\n13 9\n255\n" + random.Random(it).randbytes(117) for it in range(12))
-    wrong = [differing(program, pictures, tracks(random.Random(seed), 12, TEXTS["two digits"])) for seed in range(8)]
-    cases.count("made tracks over pictures", not any(wrong), "\n".join(filter(None, wrong))[:3000])
+    count_lists(cases, "made tracks over pictures", [differing(program, pictures, tracks(random.Random(seed), TEXTS["two digits"])) for seed in range(8)])
 
 
 def by_margin(cases, program):
     """Each margin is the same on all sides, also of boxes that end before the frame or begin after it."""
     for margin in (0, 1, 2, 3, 5, 40, 2**64 - 1):
-        wrong = []
-        for seed, (sampling, interlaced) in enumerate([(b"mono", b"p"), (b"420jpeg", b"p"), (b"420jpeg", b"t"), (b"422", b"p"), (b"411", b"p"), (b"444", b"p")]):
-            data, lines = video(sampling, interlaced), tracks(random.Random(f"{seed} {margin}"), 12, TEXTS["halves"])
-            lines = [it for it in lines if not any(size.startswith("-") for size in it.split(",")[4:6])]
-            said, _ = run(program, lines, ["--margin", str(margin)], data)
-            if without_note(*said) != by_model(data, lines, margin=margin):
-                wrong.append(f"{said[1:]} for {sampling}\n" + "\n".join(lines))
-        cases.count(f"made tracks with a margin of {margin} are covered as the model says", not any(wrong), "\n".join(wrong)[:3000])
-    data = video(b"mono", size=(16, 16))
+        wrong = [differing(program, video(sampling, fields=fields), tracks(random.Random(f"{seed} {margin}"), TEXTS["halves"]), margin=margin) for seed, (sampling, fields) in enumerate(KINDS)]
+        count_lists(cases, f"made tracks with a margin of {margin} are covered as the model says", wrong)
+    data = video("mono", width=16, height=16)
     for name, box, mirrored in (("columns", "17,4,3,3", "-4,4,3,3"), ("rows", "4,17,3,3", "4,-4,3,3")):
         for margin in (None, 0, 1, 2, 3):
             words = [] if margin is None else ["--margin", str(margin)]
@@ -164,36 +83,23 @@ def differing_pixels(data, out):
     return {(at % 16, at // 16) for at in range(256) if data[start + at] != out[start + at]}
 
 
-# What boxes may become: the words of the option, and the word of the edit with what follows its window.
-STYLES = (
-    ("fill 99", ("fill", [99])),
-    ("mosaic 4,4", ("mosaic", [4, 4])),
-    ("mosaic 8,2", ("mosaic", [8, 2])),
-    ("means 4,4", ("means", [4, 4])),
-    ("blur 3", ("blur", [3])),
-    ("blur 0", ("blur", [0])),
-)
+# What boxes may become: the word of the edit, and what follows its window.
+STYLES = (("fill", [99]), ("mosaic", [4, 4]), ("mosaic", [8, 2]), ("means", [4, 4]), ("blur", [3]), ("blur", [0]))
 
 
 def by_styles(cases, program):
     """What each box becomes in the place of a cover."""
-    for words, style in STYLES:
+    for style in STYLES:
         wrong = []
-        for seed, (sampling, interlaced) in enumerate([(b"mono", b"p"), (b"420jpeg", b"p"), (b"422", b"p"), (b"411", b"p"), (b"444", b"p")]):
-            data, lines = video(sampling, interlaced), tracks(random.Random(f"{seed} {words}"), 12, TEXTS["halves"])
-            lines = [it for it in lines if not any(size.startswith("-") for size in it.split(",")[4:6])]
-            for margin in (None, 0, 3):
-                more = [] if margin is None else ["--margin", str(margin)]
-                said, _ = run(program, lines, ["--with", *words.split(), *more], data)
-                if without_note(*said) != by_model(data, lines, (), style, margin):
-                    wrong.append(f"{said[1:]} for {sampling} {margin}\n" + "\n".join(lines))
-        cases.count(f"boxes become '{words}' as the model says", not any(wrong), "\n".join(wrong)[:3000])
+        for seed, (sampling, fields) in enumerate(it for it in KINDS if it[1] == b"Ip"):
+            data, lines = video(sampling, fields=fields), tracks(random.Random(f"{seed} {style}"), TEXTS["halves"])
+            wrong += [differing(program, data, lines, style=style, margin=margin) for margin in (None, 0, 3)]
+        count_lists(cases, f"boxes become '{' '.join(options(style=style)[1:])}' as the model says", wrong)
     colours = b"P6\n13 9\n255\n" + random.Random(1).randbytes(351)
     lines = ["1,1,-2,3,5,4", "1,2,9,-1,3.5,3.5"]
-    for words, style in (("fill 9,99,199", ("fill", [9, 99, 199])), *STYLES):
-        said, _ = run(program, lines, ["--with", *words.split()], colours)
-        cases.count(f"boxes of a picture become '{words}'", without_note(*said) == by_model(colours, lines, (), style), str(said[1:]))
-    data = video(b"420jpeg")
+    for style in (("fill", [9, 99, 199]), *STYLES):
+        count_lists(cases, f"boxes of a picture become '{' '.join(options(style=style)[1:])}'", [differing(program, colours, lines, style=style)])
+    data = video("420jpeg")
     for words, reason in (("fill 256", "value 256 is above 255"), ("fill 1,2,3", "a colour is only for pictures in colour"), ("mosaic 3,4", "tile width 3 is no multiple of 2"), ("means 0,4", "its size is 0")):
         said, all_lines = run(program, ["# boxes", "1,1,2,2,4,4"], ["--with", *words.split()], data)
         cases.count(f"--with {words} is a fault of the first line", said == (b"", "fault outside", 6) and any(it == f"line 2 of the boxes: {reason}" or it.startswith(f"line 2 of the boxes: {reason}") for it in all_lines), str(all_lines[:4]))
@@ -226,7 +132,7 @@ def bare_stretches(lines, frames, hold=0):
 
 def by_bare_frames(cases, program):
     """One line says how many frames have no box, and which stretch of them is the longest."""
-    data = video(b"mono")
+    data = video("mono")
     wrong = []
     for seed in range(60):
         chance = random.Random(seed)
@@ -251,9 +157,9 @@ def by_bare_frames(cases, program):
 
 def by_report(cases, program):
     """The report has the rectangles as they were drawn: what differs between input and output is inside them, and a fill of them is the output."""
-    for sampling, interlaced in ((b"mono", b"p"), (b"420jpeg", b"p"), (b"420jpeg", b"t"), (b"411", b"p")):
-        data, size = video(sampling, interlaced), (13, 9)
-        lines = [it for it in tracks(random.Random(3), 12, TEXTS["halves"]) if not any(part.startswith("-") for part in it.split(",")[4:6])]
+    for sampling, fields in (it for it in KINDS if it[0] in ("mono", "420jpeg", "411")):
+        data, size = video(sampling, fields=fields), SIZE
+        lines = tracks(random.Random(3), TEXTS["halves"])
         for words in ([], ["--margin", "0"], ["--margin", "3"], ["--hold", "2"]):
             with tempfile.TemporaryDirectory() as room:
                 (pathlib.Path(room) / "boxes.txt").write_text("\n".join(lines) + "\n")
@@ -262,7 +168,7 @@ def by_report(cases, program):
                 names = sorted(it.name for it in pathlib.Path(room).iterdir())
             again = answer(data, [(row[0] - 1, row[0], "fill", row[1:], [16]) for row in rows] + edits_of("fill 0,0,4,4 99".split()))
             inside = all(len(row) == 5 and 0 < row[0] <= 12 and row[3] and row[4] and row[1] + row[3] <= size[0] and row[2] + row[4] <= size[1] for row in rows)
-            cases.count(f"the report of {sampling.decode()} {interlaced.decode()} {' '.join(words)} filled is the output", without_note(*said) == (again, "", 0) and inside and rows and [row[0] for row in rows] == sorted(row[0] for row in rows) and names == ["boxes.txt", "report.csv"], f"{said[1:]} {rows[:5]} {names}")
+            cases.count(f"the report of {sampling} {fields.decode()} {' '.join(words)} filled is the output", without_note(*said) == (again, "", 0) and inside and rows and [row[0] for row in rows] == sorted(row[0] for row in rows) and names == ["boxes.txt", "report.csv"], f"{said[1:]} {rows[:5]} {names}")
     sizes = [(13, 9), (13, 9), (4, 4), (13, 9)]
     pictures = b"".join(b"P5\n%d %d\n255\n" % it + random.Random(str(it)).randbytes(it[0] * it[1]) for it in sizes)
     with tempfile.TemporaryDirectory() as room:
@@ -271,7 +177,7 @@ def by_report(cases, program):
         text = (pathlib.Path(room) / "report.csv").read_text()
     cases.count("the report of pictures of several sizes", said[2] == 0 and text == "1,2,2,6,6\n2,2,2,6,6\n3,2,2,2,2\n4,2,2,6,6\n", f"{said[1:]} {text}")
     by_moved(cases, program)
-    data = video(b"mono")
+    data = video("mono")
     for name, status in (("/nowhere/report.csv", 5), ("/", 5)):
         said, all_lines = run(program, ["1,1,2,2,4,4"], ["--report", name], data)
         cases.count(f"a report that can't be written is a fault: {name}", said[1:] == ("fault output", status) and any(name in it for it in all_lines), str(all_lines[:3]))
@@ -283,7 +189,7 @@ def by_report(cases, program):
 
 def by_moved(cases, program):
     """The report has the places of the output: after flips, turns, a crop or a border all its rectangles are black there."""
-    data = video(b"mono")
+    data = video("mono")
     for words, size, keeps in (
         ("flip rows", (13, 9), True), ("flip columns", (13, 9), True), ("turn half", (13, 9), True), ("2..5 flip columns 4.. flip rows", (13, 9), True),
         ("turn right", (9, 13), True), ("turn left", (9, 13), True), ("flip rows turn left", (9, 13), True), ("pad 3,2,1,4 99", (17, 15), True), ("crop 2,1,7,5", (7, 5), False),
@@ -306,15 +212,14 @@ def by_edges(cases, program):
     """Boxes whose edges are at, just before and just after a pixel's edge."""
     parts = ("0", "0.00000000000000000001", "0.5", "0.99999999999999999999", "1", "1.00000000000000000001")
     lines = [f"{at % 12 + 1},{at},{sign}{left},{top},{width},{height}" for at, (sign, left, top, width, height) in enumerate((sign, left, top, width, height) for sign in ("", "-", "1", "-1") for left in parts for top in ("2", "-0.5") for width in parts for height in ("1.5", "0"))]
-    data = video(b"mono")
-    wrong = [differing(program, data, lines[at:at + 3]) for at in range(0, len(lines), 3)]
-    cases.count("edges between pixels", not any(wrong), "\n".join(filter(None, wrong))[:3000])
+    data = video("mono")
+    count_lists(cases, "edges between pixels", [differing(program, data, lines[at:at + 3]) for at in range(0, len(lines), 3)])
     far = ["1,1,4294967295,4294967295,4294967295.99999999999999999999,4294967295", "2,1,-4294967295,-4294967295,4294967295.99999999999999999999,4294967295.5", "3,1,-4294967295,0,4294967295,4"]
-    cases.count("the greatest numbers", differing(program, data, far) is None, str(differing(program, data, far)))
+    count_lists(cases, "the greatest numbers", [differing(program, data, far)])
 
 
 def by_form(cases, program):
-    data, lines = video(b"420jpeg"), tracks(random.Random(9), 12, TEXTS["two digits"])
+    data, lines = video("420jpeg"), tracks(random.Random(9), TEXTS["two digits"])
     six = [",".join(it.split(",")[:6]) for it in lines]
     for name, written, ending in (
         ("carriage returns", six, "\r\n"),
@@ -326,11 +231,9 @@ def by_form(cases, program):
         ("more fields", [f"{it},x,,nothing at all" for it in six], "\n"),
         ("identities with a sign and a fraction", [it.replace(",", ",-", 1) for it in six], "\n"),
     ):
-        wrong = differing(program, data, lines, (), ending, written)
-        cases.count(f"{name} change nothing", wrong is None, str(wrong)[:2000])
+        count_lists(cases, f"{name} change nothing", [differing(program, data, lines, ending=ending, written=written)])
     for words in ("mosaic 0,0,13,9 2,2", "move 0,0,8,8 4,0 fill 4,0,2,2 9", "3..5 fill 0,0,4,4 200 crop 2,2,6,6", "pad 2,2,2,2 9", "cover 0,0,2,2 99"):
-        wrong = differing(program, data, lines, words.split())
-        cases.count(f"boxes come before '{words}'", wrong is None, str(wrong)[:2000])
+        count_lists(cases, f"boxes come before '{words}'", [differing(program, data, lines, words.split())])
         with tempfile.NamedTemporaryFile("w", suffix=".edits") as listed:
             listed.write("\n".join(" ".join(it) for it in ([] if words.startswith("move") else [words.split()] if "crop" not in words else [words.split()[:4], words.split()[4:]])))
             listed.flush()
@@ -340,7 +243,7 @@ def by_form(cases, program):
 
 
 def by_faults(cases, program):
-    data = video(b"mono")
+    data = video("mono")
     for line, reason in REFUSED:
         said, all_lines = run(program, ["1,1,2,2,4,4", "", line], ["fill", "0,0,1,1", "9"], data)
         cases.count(f"'{line}' is refused with its line", said == (b"", "fault words", 1) and f"at line 3 of the boxes: {reason}" in all_lines[1], str(all_lines[:2]))
@@ -357,7 +260,7 @@ def by_faults(cases, program):
 
 def by_odd_lists(cases, program):
     """Lists that look as if they were meant otherwise are noted, and name the script."""
-    data = video(b"mono", frames=30)
+    data = video("mono", frames=30)
     for lines, note in (
         (["1,1,0.25,0.5,0.1,0.2", "2,1,0,0,1,1.0"], "note: all boxes are from 0 to 1, and are read as pixels: imgref-boxes --size"),
         (["11,1,2,2,4,4", "30,1,2,2,4,4"], "note: the first box is in frame 11 of the list: imgref-boxes --first-frame"),
@@ -370,7 +273,7 @@ def by_odd_lists(cases, program):
 
 def by_notes(cases, program):
     """A box wholly outside, and one of a frame that there isn't, are noted by their lines."""
-    data = video(b"mono")
+    data = video("mono")
     inside = "1,1,2,2,4,4"
     for line in ("3,1,-9,2,4,4", "3,1,2,-9,4,4", "3,1,-6,2,4,4", "3,1,15,2,4,4", "3,1,2,11,4,4", "3,1,2,4294967295,4,4"):
         said, all_lines = run(program, [inside, "# comment", line], [], data)

@@ -7,15 +7,14 @@ examples/review.py shows the covers, and examples/hide_faces.py does all of it f
 """
 import os
 import pathlib
-import shutil
 import subprocess
 import sys
 import tempfile
 
 sys.path.insert(0, str(pathlib.Path(__file__).resolve().parents[2]))
 from checking import ROOT, Cases, both_builds
-from tries import SAMPLINGS
-from tries import video as video_of
+from needs import python_with
+from tries import SAMPLINGS, grey, video
 
 WIDTH, HEIGHT, FRAMES = 320, 240, 24
 BACK, DARK, BLACK = 200, 40, 16
@@ -47,16 +46,15 @@ def figure(middle, top, unit):
     return [y * WIDTH + x for x, y in places if any(is_inside(part, (x - middle) / unit, (y - top) / unit) for part in PARTS)]
 
 
-def video():
+def walk():
     """A video of a figure that walks to the right, and the places of the figure in each frame. In three frames it is faint."""
-    out, shown = b"YUV4MPEG2 W%d H%d F25:1 Ip C420jpeg\n" % (WIDTH, HEIGHT), []
-    chroma = bytes([128]) * (WIDTH * HEIGHT // 2)
+    made, shown = [], []
     for frame in range(FRAMES):
         plane, places = bytearray([BACK]) * (WIDTH * HEIGHT), figure(80 + 6 * frame, 40, 20)
         for at in places:
             plane[at] = BACK - 3 if 9 <= frame < 12 else DARK
-        out, shown = out + b"FRAME\n" + plane + chroma, shown + [places]
-    return out, shown
+        made, shown = [*made, plane], [*shown, places]
+    return grey(WIDTH, HEIGHT, made), shown
 
 
 def ellipse(middle, size, part):
@@ -69,15 +67,15 @@ def ellipse(middle, size, part):
 
 def portrait():
     """A video of a face that moves to the right, and the places of its eyes, brows, nose and mouth in each frame."""
-    out, shown = b"YUV4MPEG2 W%d H%d F25:1 Ip C420jpeg\n" % (WIDTH, HEIGHT), []
+    made, shown = [], []
     for frame in range(FRAMES):
         plane, middle = bytearray([BACK // 2]) * (WIDTH * HEIGHT), (110 + 4 * frame, 125)
         for part in (*SKIN, *FEATURES):
             for at in ellipse(middle, 45, part):
                 plane[at] = part[4]
-        out += b"FRAME\n" + plane + bytes([128]) * (WIDTH * HEIGHT // 2)
+        made.append(plane)
         shown.append([at for part in FEATURES for at in ellipse(middle, 45, part)])
-    return out, shown
+    return grey(WIDTH, HEIGHT, made), shown
 
 
 def planes(made):
@@ -89,20 +87,13 @@ def planes(made):
     return found
 
 
-def python_with(module):
-    for python in ("python3", "/usr/bin/python3"):
-        if shutil.which(python) and subprocess.run([python, "-c", f"import {module}"], capture_output=True).returncode == 0:
-            return python
-    return None
-
-
 def uncovered(made, shown):
     """The frames in which a pixel of the figure isn't black."""
     return [number for number, (plane, places) in enumerate(zip(planes(made), shown)) if any(plane[at] != BLACK for at in places)]
 
 
 def by_detector(cases, program, python):
-    data, shown = video()
+    data, shown = walk()
     with tempfile.TemporaryDirectory() as folder:
         given, listed = pathlib.Path(folder, "in.y4m"), pathlib.Path(folder, "people.txt")
         given.write_bytes(data)
@@ -159,7 +150,7 @@ def by_sheets(cases, python):
             done = subprocess.run([*review, sheet, *words], cwd=folder, capture_output=True, text=True, timeout=120)
             return done, sorted(it.name for it in pathlib.Path(folder).iterdir() if it.name not in ("out.y4m", "covers.csv"))
 
-    plain = video_of("420", 12, 8)
+    plain = video("420")
     done, left = tried(plain, names=("sheet.png", "sheet-2.png", "sheet-3.png", "sheet-5.png", "sheet-old.png"))
     cases.count("sheets of an earlier run are removed, and other pictures stay", done.returncode == 0 and left == ["sheet-5.png", "sheet-old.png", "sheet.png"], f"{left} {done.stderr}")
     for label, data, words, due in (
@@ -175,7 +166,7 @@ def by_sheets(cases, python):
         cases.count(f"a sheet with {label} is refused in a line", done.returncode == 1 and due in done.stderr and done.stderr.count("\n") == 1 and not left, done.stderr)
     for size in ((1, 1), (2, 1), (3000, 1), (1, 3000), (321, 3), (13, 9)):
         for sampling in ("mono", "420", "411", "444alpha", "420p10"):
-            done, left = tried(video_of(sampling, *size))
+            done, left = tried(video(sampling, *size))
             cases.count(f"a sheet of frames of {size[0]} by {size[1]}, C{sampling}", done.returncode == 0 and left == ["sheet.png"], done.stderr)
 
 
@@ -220,7 +211,7 @@ def by_wrong_files(cases, python):
             done = subprocess.run([python, ROOT / f"examples/{name}.py", "-"], input=given, capture_output=True, timeout=300)
             cases.count(f"{name}.py writes no list of {label}", done.returncode == 1 and not done.stdout and due in done.stderr.decode(), done.stderr.decode())
     for name in SAMPLINGS:
-        done = subprocess.run([python, ROOT / "examples/detect_faces.py", "-"], input=video_of(name, 99, 81), capture_output=True, timeout=300)
+        done = subprocess.run([python, ROOT / "examples/detect_faces.py", "-"], input=video(name, 99, 81), capture_output=True, timeout=300)
         cases.count(f"the frames of C{name} are counted", (done.stdout.split(b"\n")[0], done.returncode) == (b"# frames 3", 0), done.stderr.decode())
 
 

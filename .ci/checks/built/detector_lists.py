@@ -11,6 +11,7 @@ import tempfile
 
 sys.path.insert(0, str(pathlib.Path(__file__).resolve().parents[2]))
 from checking import ROOT, Cases, both_builds
+from tries import y4m
 
 # The same two boxes, which most of the lists have.
 BOXES = "1,7,10,20,30,40\n3,7,12.5,20,30,40.25\n"
@@ -159,9 +160,8 @@ def by_calls(cases):
 
 def by_program(cases, program):
     """The program reads each list that is written, as it reads the strict one."""
-    head = b"YUV4MPEG2 W64 H64 F25:1 Cmono\n"
     for label, (words, given, due) in READ.items():
-        frames = head + (b"FRAME\n" + bytes([99]) * 4096) * max(int(it.split(",")[0]) for it in due.split())
+        frames = y4m("mono", 64, 64, [bytes([99]) * 4096] * max(int(it.split(",")[0]) for it in due.split()))
         with tempfile.NamedTemporaryFile("w", suffix=".txt") as listed:
             listed.write(made(words, given)[0])
             listed.flush()

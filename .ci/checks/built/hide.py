@@ -19,7 +19,7 @@ import time
 
 sys.path.insert(0, str(pathlib.Path(__file__).resolve().parents[2]))
 from checking import ROOT, Cases, both_builds
-from hiding import DETECTOR, ENTRY, FRAMES, HEIGHT, SQUARE, WIDTH, Place, all_of, bared, black, children, ffmpeg, frames_of, is_hidden, left, video
+from hiding import FRAMES, HEIGHT, SQUARE, WIDTH, Place, all_of, bared, black, children, encoded, ffmpeg, frames_of, is_hidden, left
 
 # A FaceDetectorYN that finds what is white, under the names of OpenCV. It fails where the picture isn't grey and white.
 MODEL = """
@@ -404,7 +404,7 @@ def main():
             continue
         with tempfile.TemporaryDirectory() as folder:
             place = Place(folder, program)
-            video(folder, "in.mp4")
+            encoded(folder, "in.mp4")
             tried = (by_progress, by_real, by_model, by_words, by_signals, by_names, by_forms, by_sizes, by_hand, by_covers, by_cut, by_missing, by_plain, by_terminal, by_record, by_room)
             all_of(cases, [lambda it=it: it(cases, place) for it in tried])
     return cases.end()

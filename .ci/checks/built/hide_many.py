@@ -20,7 +20,8 @@ import time
 
 sys.path.insert(0, str(pathlib.Path(__file__).resolve().parents[2]))
 from checking import ROOT, Cases, both_builds
-from hiding import ENTRY, FRAMES, Place, all_of, children, ffmpeg, is_hidden, left, video
+from hiding import FRAMES, Place, all_of, children, encoded, ffmpeg, is_hidden
+from needs import python_with
 
 RECIPE = re.compile(r"(?m)^    (find in .*parallel .*--sshloginfile.*)$")
 # A picture by Dask may take so many seconds.
@@ -177,13 +178,6 @@ def by_hosts(cases, place):
             it.kill()
 
 
-def python_with(modules):
-    for it in dict.fromkeys((sys.executable, "/usr/bin/python3")):
-        if subprocess.run([it, "-c", f"import {modules}"], capture_output=True).returncode == 0:
-            return it
-    return None
-
-
 # What makes in.npy, a picture of one run, and how many pixels of another one differ from those of out.pgm.
 WHOLE = "import numpy, sys; a = numpy.load('in.npy'); b = a.astype('>u2' if a.itemsize == 2 else 'u1'); sys.stdout.buffer.write(b'P5\\n%d %d\\n%d\\n' % (a.shape[1], a.shape[0], 65535 if a.itemsize == 2 else 255) + b.tobytes())"
 COMPARED = "import numpy, sys; made = sys.argv[1]; a = numpy.load(made) if made.endswith('.npy') else __import__('zarr').open_array(made, mode='r')[:]; b = numpy.frombuffer(open('out.pgm', 'rb').read()[-a.nbytes:], '>u2' if a.itemsize == 2 else 'u1').reshape(a.shape); print(a.shape, int((a != b).sum()))"
@@ -316,7 +310,7 @@ def main():
         # (a host that is killed may still write while its folder is removed)
         with tempfile.TemporaryDirectory(ignore_cleanup_errors=True) as folder:
             place = Place(folder, program)
-            video(folder, "in.mp4")
+            encoded(folder, "in.mp4")
             all_of(cases, [lambda it=it: it(cases, place) for it in (by_hosts, by_dask, by_zarr, by_folder, by_signal)])
     return cases.end()
 

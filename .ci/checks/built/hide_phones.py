@@ -6,7 +6,6 @@ Each kind is made by ffmpeg: turned by metadata, with a varying rate, cut by an 
 the decoded output. The kinds with odd times are those of recipes.py, whose frames have their number in them.
 """
 import json
-import os
 import pathlib
 import re
 import shutil
@@ -17,7 +16,7 @@ import tempfile
 sys.path.insert(0, str(pathlib.Path(__file__).resolve().parents[2]))
 import recipes
 from checking import Cases, both_builds
-from hiding import FRAMES, Place, all_of, bared, ffmpeg, frames_of, is_hidden, source, video
+from hiding import Place, all_of, encoded, ffmpeg, frames_of, is_hidden
 
 
 def streams(folder, name, entries="stream=codec_type,codec_name,width,height,pix_fmt,field_order,color_transfer,color_primaries,color_space,color_range,codec_tag_string:stream_side_data=rotation"):
@@ -107,7 +106,7 @@ def by_size(cases, place):
     """Upright 4K, as two frames."""
     folder = place.folder / "size"
     folder.mkdir()
-    video(folder, "big.mp4", "-t 0.3", width=2160, height=3840, frames=3, square=300, sound=False)
+    encoded(folder, "big.mp4", "-t 0.3", width=2160, height=3840, frames=3, square=300, sound=False)
     done = place.run(folder, "big.mp4", "out.mp4")
     frames, wide, high = frames_of(folder, "out.mp4") if done.returncode == 0 else ([], 0, 0)
     cases.count("upright 4K is hidden", (len(frames), wide, high) == (3, 2160, 3840) and not any(max(it) > 170 for it in frames), done.stderr)
@@ -143,7 +142,7 @@ def main():
             continue
         with tempfile.TemporaryDirectory() as folder:
             place = Place(folder, program)
-            video(folder, "in.mp4")
+            encoded(folder, "in.mp4")
             all_of(cases, [lambda it=it: it(cases, place) for it in (by_times, by_container, by_turns, by_hdr, by_size, by_fields, by_colours)])
     return cases.end()
 

@@ -3,120 +3,56 @@
 
 A model that shares nothing with the program says frame by frame what is covered. Both builds are run that `rt ci` leaves.
 """
-import math
+import pathlib
 import random
 import sys
-from fractions import Fraction
 
-from boxes import COVER, TEXTS, run, video
+sys.path.insert(0, str(pathlib.Path(__file__).resolve().parents[2]))
 from checking import Cases, both_builds
-from frames import answer
-from tries import without_note
+from tracked import MOST_FRAMES, TEXTS, count_lists, differing, run, tracks, video
+from tries import lines_said
 
-FRAMES = 24
-
-
-class Box:
-    """A line: its frame and its track, and where it is in each direction."""
-
-    def __init__(self, line, number):
-        frame, name, left, top, width, height = line.split(",")[:6]
-        self.frame, self.number, self.starts = int(frame), number, (left, top)
-        self.sides = [(Fraction(start), Fraction(start) + Fraction(size)) for start, size in ((left, width), (top, height))]
-        self.track = ("alone", number) if name.startswith("-") or Fraction(name).denominator > 1 else ("track", Fraction(name))
-
-
-def pixels(low, high):
-    """The first pixel of a side, which may be before the frame, and how many it has."""
-    return math.floor(low), math.ceil(high) - math.floor(low)
-
-
-def rectangle(boxes):
-    """The pixels of the smallest box around these."""
-    found = [pixels(min(it.sides[at][0] for it in boxes), max(it.sides[at][1] for it in boxes)) for at in (0, 1)]
-    return [found[0][0], found[1][0], found[0][1], found[1][1], None]
-
-
-def in_frame(tracks, hold, frame):
-    """The boxes that are in a frame, each as those that it is around."""
-    for track in tracks:
-        for at, box in enumerate(track):
-            comes = at > 0 and 0 < box.frame - track[at - 1].frame <= hold + 1
-            goes = at + 1 < len(track) and 0 < track[at + 1].frame - box.frame <= hold + 1
-            if box.frame == frame or (not goes and 0 < frame - box.frame <= hold) or (not comes and 0 < box.frame - frame <= hold):
-                yield [box]
-            if goes and box.frame < frame < track[at + 1].frame:
-                yield [box, track[at + 1]]
-
-
-def covers(lines, hold, frames=FRAMES):
-    """The edits that lines become, one for each frame and box."""
-    boxes = [Box(line, number) for number, line in enumerate(lines)]
-    tracks = {}
-    for box in sorted(boxes, key=lambda it: it.frame):
-        tracks.setdefault(box.track, []).append(box)
-    found = [(frame, rectangle(around)) for frame in range(1, frames + 1) for around in in_frame(tracks.values(), hold, frame)]
-    return [(frame - 1, frame, "box", window, COVER) for frame, window in found]
-
-
-def tracks(chance, text, names):
-    """The lines of tracks with gaps of one to some frames. Some end after the video, and some frames have two lines of a track."""
-    lines = []
-    for name in names:
-        left, top, frame = chance.uniform(-6, 12), chance.uniform(-6, 8), chance.randint(1, 12)
-        for _ in range(chance.randint(1, 7)):
-            left, top = left + chance.uniform(-4, 4), top + chance.uniform(-4, 4)
-            lines.append(f"{frame},{name},{text(left)},{text(top)},{text(chance.uniform(0, 5))},{text(chance.uniform(0, 5))},1")
-            frame += chance.choice((0, 1, 1, 1, 2, 3, 4, 5, 7))
-    chance.shuffle(lines)
-    return lines
-
-
-def differing(program, data, lines, hold, words=()):
-    """What is wrong with these lines, or none."""
-    said, _ = run(program, lines, ["--hold", str(hold), *words], data)
-    right = answer(data, covers(lines, hold))
-    return None if without_note(*said) == (right, "", 0) else f"--hold {hold}: {said[1:]} for\n" + "\n".join(lines)
+# Tracks of which some have one line, and names by which some boxes are alone.
+MADE = {"names": ("1", "2", "2.0", "7", "-1", "-1", "3.5", "4294967295"), "first": 12, "most": 7, "steps": (0, 1, 1, 1, 2, 3, 4, 5, 7)}
 
 
 def by_tracks(cases, program):
     for name in ("two digits", "halves", "whole numbers"):
         for hold in (0, 1, 2, 3, 5, 30):
             wrong = []
-            for seed, sampling in enumerate((b"mono", b"420jpeg", b"422", b"444") * 3):
-                chance = random.Random(f"{seed} {hold}")
-                lines = [it.replace("--", "-") for it in tracks(chance, TEXTS[name], ("1", "2", "2.0", "7", "-1", "-1", "3.5", "4294967295"))]
-                wrong.append(differing(program, video(sampling, frames=FRAMES), lines, hold))
-            cases.count(f"made tracks in {name} are held for {hold} frames as the model says", not any(wrong), "\n".join(filter(None, wrong))[:3000])
+            for seed, sampling in enumerate(("mono", "420jpeg", "422", "444") * 3):
+                lines = tracks(random.Random(f"{seed} {hold}"), TEXTS[name], **MADE)
+                wrong.append(differing(program, video(sampling, frames=MOST_FRAMES), lines, hold=hold))
+            count_lists(cases, f"made tracks in {name} are held for {hold} frames as the model says", wrong)
 
 
 def by_gaps(cases, program):
     """Two boxes of one track with each gap, held for as many frames, one fewer and one more."""
-    data = video(b"mono", frames=FRAMES)
+    data = video("mono", frames=MOST_FRAMES)
     for first, second in (("2,2,3,3", "8,5,3,3"), ("-9,-9,4,4", "6,4,3,2"), ("-2.5,0.25,1,1", "9.75,-3,2.5,3.5"), ("0,0,0,0", "5,5,0,0"), ("30,2,4,4", "-40,3,4,4")):
         wrong = []
         for gap in range(6):
             for hold in {max(0, gap - 1), gap, gap + 1}:
                 for lines in ((f"9,1,{first}", f"{10 + gap},1,{second}"), (f"{10 + gap},1,{second}", f"9,1,{first}"), (f"9,1,{first}", f"{10 + gap},2,{second}")):
-                    wrong.append(differing(program, data, lines, hold))
-        cases.count(f"{first} and {second} with each gap", not any(wrong), "\n".join(filter(None, wrong))[:3000])
+                    wrong.append(differing(program, data, lines, hold=hold))
+        count_lists(cases, f"{first} and {second} with each gap", wrong)
 
 
 def by_ends(cases, program):
     """Holds that reach the ends of a video, and past the greatest number of a frame."""
-    data, greatest = video(b"mono", frames=FRAMES), 18446744073709551615
+    data, greatest = video("mono", frames=MOST_FRAMES), 18446744073709551615
     for hold in (0, 1, 5, greatest):
-        for frame in (1, 2, FRAMES - 1, FRAMES):
+        for frame in (1, 2, MOST_FRAMES - 1, MOST_FRAMES):
             lines = [f"{frame},1,2,2,4,4"]
-            cases.count(f"frame {frame} held for {hold}", differing(program, data, lines, hold, ["--strict"]) is None)
+            count_lists(cases, f"frame {frame} held for {hold}", [differing(program, data, lines, more=["--strict"], hold=hold)])
         said, all_lines = run(program, ["1,1,2,2,4,4", "", f"{greatest},2,2,2,4,4"], ["--hold", str(hold)], data)
-        note = f"note: line 3 of the boxes: the input has {FRAMES} frames, and ends before frame {max(1, greatest - hold)} of the list"
-        cases.count(f"the last frame held for {hold}", said[2] == 0 and (all_lines[0].startswith(note) if hold < FRAMES else not all_lines[0]), str(all_lines[:2]))
+        note = f"note: line 3 of the boxes: the input has {MOST_FRAMES} frames, and ends before frame {max(1, greatest - hold)} of the list"
+        cases.count(f"the last frame held for {hold}", said[2] == 0 and (all_lines[0].startswith(note) if hold < MOST_FRAMES else not all_lines[0]), str(all_lines[:2]))
 
 
 def by_notes(cases, program):
     """A box that is held keeps its line in notes, and the gap after it has that line too."""
-    data, inside = video(b"mono", frames=FRAMES), "3,1,2,2,4,4"
+    data, inside = video("mono", frames=MOST_FRAMES), "3,1,2,2,4,4"
     said, all_lines = run(program, ["40,2,1,1,2,2", "# comment", inside, "9,3,-9,2,4,4"], ["--hold", "2"], data)
     cases.count("held boxes keep their lines in notes", [it.split(":")[1] for it in all_lines[:2]] == [" line 4 of the boxes", " line 1 of the boxes"], str(all_lines[:3]))
     cases.count("the note names the first frame that is held", "in frame 7 of the list," in all_lines[0], str(all_lines[:1]))
@@ -127,8 +63,7 @@ def by_notes(cases, program):
 
 
 def by_faults(cases, program):
-    from tries import lines_said
-    data = video(b"mono")
+    data = video("mono")
     for words in (["--hold", "3", "fill", "0,0,1,1", "9"], ["--hold", "3"]):
         said = lines_said(program, words, data)
         cases.count(f"{' '.join(words)} without boxes is refused", said[0] == "fault words" and "--hold" in said[1] and "--boxes" in said[1], str(said[:2]))

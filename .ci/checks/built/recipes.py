@@ -22,6 +22,9 @@ from fractions import Fraction
 
 sys.path.insert(0, str(pathlib.Path(__file__).resolve().parents[2]))
 from checking import ROOT, Cases, both_builds
+from hiding import ffmpeg
+from needs import python_with
+from tries import grey
 
 WIDTH, HEIGHT, FRAMES, RATE = 192, 128, 180, 30
 FACE, BRIGHT, DARK, BACK = 24, 235, 30, 90
@@ -115,25 +118,19 @@ def corner(number):
 
 
 def picture(number):
-    """A frame of the source: the face, and its number below."""
+    """The brightness of a frame of the source: the face, and its number below."""
     plane, (left, top) = bytearray([BACK]) * (WIDTH * HEIGHT), corner(number)
     for y in range(top, top + FACE):
         plane[y * WIDTH + left:y * WIDTH + left + FACE] = bytes([BRIGHT]) * FACE
     for bit in (it for it in range(8) if number >> it & 1):
         for y in range(BLOCKS, HEIGHT):
             plane[y * WIDTH + FACE * bit:y * WIDTH + FACE * (bit + 1)] = bytes([DARK]) * FACE
-    return b"FRAME\n" + plane + bytes([128]) * (WIDTH * HEIGHT // 2)
-
-
-def ffmpeg(folder, words):
-    """Runs ffmpeg in a folder on words without spaces in them."""
-    return subprocess.run(["ffmpeg", "-v", "error", "-y", *words.split()], cwd=folder, check=True, capture_output=True, timeout=300).stdout
+    return plane
 
 
 def made_files(folder):
     """The six kinds of files, by what is special about them."""
-    line = f"YUV4MPEG2 W{WIDTH} H{HEIGHT} F{RATE}:1 Ip A1:1 C420jpeg\n".encode()
-    pathlib.Path(folder, "source.y4m").write_bytes(line + b"".join(picture(it) for it in range(FRAMES)))
+    pathlib.Path(folder, "source.y4m").write_bytes(grey(WIDTH, HEIGHT, map(picture, range(FRAMES)), rate=f"{RATE}:1"))
     sound, coded = "-f lavfi -i sine=duration={}", "-c:v libx264 -crf 12 -pix_fmt yuv420p -c:a aac"
     ffmpeg(folder, f"-i source.y4m {sound.format(6)} {coded} -g 30 plain.mp4")
     ffmpeg(folder, f"-i source.y4m {sound.format(4)} -vf trim=end_frame=90,setpts='if(lt(N,60),N/30,2+(N-60)/15)/TB' -vsync passthrough {coded} half.mp4")
@@ -198,13 +195,6 @@ def recipes():
     """The recipes of the page with a detector: each block of indented lines."""
     blocks = re.findall(r"(?:^    .*\n)+", (ROOT / "docs/FRAMES.md").read_text(), re.MULTILINE)
     return [block for block in blocks if "examples/detect_" in block]
-
-
-def python_with_both():
-    for python in ("python3", "/usr/bin/python3"):
-        if shutil.which(python) and subprocess.run([python, "-c", "import numpy, PIL"], capture_output=True).returncode == 0:
-            return shutil.which(python)
-    return None
 
 
 def room(folder, program, python):
@@ -317,7 +307,7 @@ def by_kinds(cases, program, python):
 
 
 def main():
-    cases, python = Cases(), python_with_both()
+    cases, python = Cases(), python_with("numpy, PIL")
     programs = both_builds(cases, "imgref_frames")[:1]
     label, number = "the recipes of docs/FRAMES.md with a detector", 6 * (4 * len(recipes()) + 2)
     if cases.lacks(label, "ffmpeg", "python3-numpy", "python3-pil", number=number):

@@ -8,7 +8,6 @@ Debian's without the toolchain and without a network, and the libraries for aarc
 The root is made by debootstrap once, and kept in ROOTS for later runs. What isn't on the machine is skipped.
 """
 import concurrent.futures
-import contextlib
 import json
 import os
 import pathlib
@@ -19,7 +18,7 @@ import sys
 import tempfile
 
 sys.path.insert(0, str(pathlib.Path(__file__).resolve().parents[2]))
-from checking import ROOT, Cases, crates
+from checking import ROOT, Cases, copied, crates, side_by_side
 from library import counted, run
 
 import web
@@ -63,24 +62,9 @@ fn main() -> Result<(), imgref_proved::Refused> {
 # ---- made twice
 
 
-def copied(folder):
-    """A copy of the repository as it is, with one commit of its files, and links to what was built and cached of its crates."""
-
-    def left_out(at, names):
-        inside = pathlib.Path(at).relative_to(ROOT).parts
-        return [".git", "out"] if not inside else [it for it in names if it == "__pycache__"]
-
-    def copy(source, target):
-        # (the prover replaces a cached file, and doesn't write into it; other files are written into)
-        inside = pathlib.Path(source).relative_to(ROOT).parts
-        if inside[0] == "crates" and inside[2:3] == ("out",) and inside[3] in ("incremental", "rlib"):
-            with contextlib.suppress(OSError):
-                os.link(source, target)
-                return
-        shutil.copy2(source, target)
-
-    shutil.copytree(ROOT, folder, ignore=left_out, copy_function=copy)
-    committed(folder)
+def with_commit(folder):
+    """A copy of the repository as it is, with one commit of its files, and with what was built and cached of its crates."""
+    committed(copied(folder, without=()))
     return folder
 
 
@@ -97,7 +81,7 @@ def released(folder, **env):
 
 def made_twice(cases, room):
     """The release of one copy, once another in another folder gave the same bytes."""
-    one, other = copied(room / "one"), copied(room / "another/of them")
+    one, other = with_commit(room / "one"), with_commit(room / "another/of them")
     status, _, said = released(one)
     cases.count("make release", status == 0, said)
     if status:
@@ -120,7 +104,7 @@ def made_twice(cases, room):
 
 def refusals(cases, _, room):
     """What is no release: changes, a version without its section, and a crate that isn't proved."""
-    top = copied(room / "refused")
+    top = with_commit(room / "refused")
 
     def refused(label, why):
         status, _, said = released(top)
@@ -402,19 +386,6 @@ def wheel_on_aarch64(cases, release, room):
         counted(cases, f"the wheel on aarch64: {it}", said, status, has_skips=False)
 
 
-def side_by_side(cases, release, room):
-    """What is tried of a release, each part in folders of its own, and with cases of its own that are added up."""
-
-    def tried(part):
-        own = Cases()
-        part(own, release, room)
-        return own
-
-    with concurrent.futures.ThreadPoolExecutor() as pool:
-        for own in pool.map(tried, (tried_inside, on_aarch64, wheel_of_each, wheel_on_aarch64, planted, refusals)):
-            cases.add(own)
-
-
 def main():
     cases = Cases()
     cases.count("the version has its section", f"## [{VERSION}]" in (ROOT / "CHANGELOG.md").read_text())
@@ -435,7 +406,8 @@ def main():
         if release := made_twice(cases, room):
             provenance(cases, release)
             by_lintian(cases, release)
-            side_by_side(cases, release, room)
+            # (each in folders of its own)
+            side_by_side(cases, [lambda own, it=it: it(own, release, room) for it in (tried_inside, on_aarch64, wheel_of_each, wheel_on_aarch64, planted, refusals)])
     return cases.end()
 
 

@@ -88,9 +88,9 @@ class Random:
         return text.encode()
 
 
-def differs(program, script):
+def differs(program, script, wanted=None):
     """What is wrong with the program's answer to a script, or nothing."""
-    wanted = model.answer(script)
+    wanted = wanted or model.answer(script)
     ran = subprocess.run([program], input=script, capture_output=True, timeout=60)
     found = ran.stdout, ran.returncode
     return "" if found == wanted else f"{script!r}\ngives {found}\nand not {wanted}"

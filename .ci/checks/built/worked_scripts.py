@@ -11,11 +11,11 @@ script whose output they are. The program must be there, as `rt ci` leaves it.
 import concurrent.futures
 import json
 import pathlib
-import subprocess
 import sys
 
 sys.path.insert(0, str(pathlib.Path(__file__).resolve().parents[2]))
 import model
+import scripts
 from checking import ROOT, Cases, both_builds
 
 FOLDER = ROOT / "cases"
@@ -59,16 +59,14 @@ def beginnings():
 
 def differs(program, name, script, output):
     """What is wrong with the program's answer to a script, or nothing."""
-    wanted = output, 2 if output.startswith(b"fault line ") else 0
-    ran = subprocess.run([program], input=script, capture_output=True, timeout=60)
-    found = ran.stdout, ran.returncode
-    return "" if found == wanted else f"{name}: {script!r}\ngives {found}\nand not {wanted}"
+    said = scripts.differs(program, script, (output, 2 if output.startswith(b"fault line ") else 0))
+    return said and f"{name}: {said}"
 
 
 def main():
     cases = Cases()
-    scripts, outputs = ({it.stem for it in FOLDER.glob(f"*.{kind}")} for kind in ("script", "out"))
-    cases.count(f"each of {len(scripts)} scripts has its output", scripts and scripts == outputs, f"without the other: {sorted(scripts ^ outputs)}")
+    names, outputs = ({it.stem for it in FOLDER.glob(f"*.{kind}")} for kind in ("script", "out"))
+    cases.count(f"each of {len(names)} scripts has its output", names and names == outputs, f"without the other: {sorted(names ^ outputs)}")
     tables = [("worked scripts", [*worked()]), ("bad lines", [*bad_lines()]), ("beginnings", [*beginnings()])]
     for label, rows in tables:
         other = [name for name, script, output in rows if model.answer(script)[0] != output]

@@ -53,8 +53,7 @@ def check_python(cases, room):
     status, _, said = run(["make", "-s", "python"], cwd=ROOT)
     wheels = [*(ROOT / "out/python").glob("imgref-*.whl")]
     cases.count("make python", status == 0 and len(wheels) == 1 and described(wheels[0]) in said, said)
-    if status or run([sys.executable, "-m", "venv", room / "fresh"])[0]:
-        cases.skip("Python's package installed by pip", "python3-venv", number=len(TESTS) + 5)
+    if status or not has_venv(cases, "Python's package installed by pip", sys.executable, room / "fresh", number=len(TESTS) + 5):
         return
     quiet = os.environ | {"PYTHONDONTWRITEBYTECODE": "1"}
     fresh = check_install(cases, room / "fresh", wheels[0], quiet)
@@ -71,6 +70,16 @@ def check_python(cases, room):
     check_sources(cases, room, python, quiet)
     check_hints(cases, room, python)
     check_pythons(cases, room, quiet)
+
+
+def has_venv(cases, label, python, *words, number=1):
+    """Whether a virtual environment is made. Where the machine lacks what makes it, these cases are skipped, and else they fail."""
+    if cases.lacks(label, "python3-venv", number=number):
+        return False
+    status, _, said = run([python, "-m", "venv", *words])
+    if status:
+        cases.count(f"{label}: a virtual environment", False, said)
+    return not status
 
 
 def with_arrays():

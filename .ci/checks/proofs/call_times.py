@@ -8,7 +8,7 @@ import pathlib
 import sys
 import tempfile
 
-from bindings import PYTHON, check_install, with_arrays
+from bindings import PYTHON, check_install, has_venv, with_arrays
 from checking import ROOT, Cases
 from library import counted, run
 
@@ -19,9 +19,7 @@ def main():
     cases.count("make python", status == 0, said)
     with tempfile.TemporaryDirectory(prefix="times-") as room:
         room, quiet = pathlib.Path(room), os.environ | {"PYTHONDONTWRITEBYTECODE": "1"}
-        if status or run([with_arrays(), "-m", "venv", "--system-site-packages", room / "venv"])[0]:
-            cases.skip("the times of calls from Python", "python3-venv")
-        else:
+        if not status and has_venv(cases, "the times of calls from Python", with_arrays(), "--system-site-packages", room / "venv"):
             python = check_install(cases, room / "venv", next((ROOT / "out/python").glob("imgref-*.whl")), quiet)
             status, _, said = run([python, "speed.py"], cwd=PYTHON / "tests", env=quiet)
             counted(cases, "Python: speed", said, status)

@@ -11,15 +11,15 @@ import concurrent.futures
 import functools
 import pathlib
 import re
-import subprocess
 import sys
 
 sys.path.insert(0, str(pathlib.Path(__file__).resolve().parents[2]))
-from checking import Cases
+from checking import ROOT, Cases
 from functions import with_function, without_clause
-from proving import Progress, processors, prove_changed, weights_of
-from workspace import room, with_those_below
+from proving import Progress, processors, prove_changed, said_with, weights_of
+from workspace import with_those_below
 
+CRATES = ROOT / "crates"
 ROUND = "layer_goes_round"
 
 # What a crate's users call, which depends on the functions of its cases.
@@ -49,23 +49,18 @@ def without(text, name, clauses, more):
     return text
 
 
-def drop_answers(crate, name, clauses):
-    """Takes out the written answers that prove those clauses."""
-    for path in crate.glob(f"proofs/**/{name}/Answers.antt"):
-        blocks = path.read_text().split("\n\n")
-        # (of a function with one clause, the answer to `returns` is a record of it)
-        kept = [it for it in blocks if not any(f"-clause-{clause} " in it or f"record {{ {clause} =" in it for clause in clauses)]
-        path.write_text("\n\n".join(kept).rstrip("\n") + "\n")
+def without_answers(text, clauses):
+    """A file of answers without those that prove these clauses."""
+    # (of a function with one clause, the answer to `returns` is a record of it)
+    kept = [it for it in text.split("\n\n") if not any(f"-clause-{clause} " in it or f"record {{ {clause} =" in it for clause in clauses)]
+    return "\n\n".join(kept).rstrip("\n") + "\n"
 
 
-def said_of(lower, file, name, clauses, upper, more):
-    """What rt check says of the upper crate with the clauses of the lower function taken out."""
-    with room(upper, changes_below=True) as made:
-        crate = made.parent / lower
-        path = crate / f"src/{file}.rt"
-        path.write_text(without(path.read_text(), name, clauses, more))
-        drop_answers(crate, name, clauses)
-        return subprocess.run(["rt", "check"], cwd=made, stdin=subprocess.DEVNULL, stdout=subprocess.PIPE, stderr=subprocess.STDOUT, text=True).stdout
+def texts_without(lower, file, name, clauses, more):
+    """The texts of the lower crate without the clauses of that function, by their paths."""
+    code, answers = CRATES / lower / f"src/{file}.rt", (CRATES / lower).glob(f"proofs/**/{name}/Answers.antt")
+    texts = {code: without(code.read_text(), name, clauses, more)} | {it: without_answers(it.read_text(), clauses) for it in answers}
+    return {str(it.relative_to(CRATES)): text for it, text in texts.items()}
 
 
 def unproved(said, crate, with_callers=False):
@@ -78,7 +73,7 @@ def tried(case):
     """A case, and what the check said of it."""
     lower, file, name, clauses, upper, _, more = case
     try:
-        return case, said_of(lower, file, name, clauses, upper, more)
+        return case, "\n".join(said_with(upper, texts_without(lower, file, name, clauses, more))[0])
     except ValueError as why:
         return case, str(why)
 

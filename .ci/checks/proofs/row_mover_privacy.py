@@ -7,16 +7,15 @@ the prover. So each case here changes row_mover in a room (tools/workspace.py) a
 """
 import pathlib
 import re
-import subprocess
 import sys
 
 sys.path.insert(0, str(pathlib.Path(__file__).resolve().parents[2]))
-from checking import Cases
+from checking import ROOT, Cases
 from functions import with_function
-from proving import Progress, prove_changed, weights_of
-from workspace import room, with_those_below
+from proving import Progress, prove_changed, said_with, weights_of
+from workspace import with_those_below
 
-MOVER, MOVES = "src/mover.rt", "src/moves.rt"
+CRATE, MOVER, MOVES = "row_mover", "src/mover.rt", "src/moves.rt"
 BY_HAND = "shift_counted_but_written_by_hand"
 
 
@@ -59,15 +58,13 @@ CASES = [
 
 def said_of(file, name, change):
     """What rt check says of the crate with that function of that file changed."""
-    with room("row_mover") as crate:
-        path = crate / file
-        path.write_text(with_function(path.read_text(encoding="utf-8"), name, change), encoding="utf-8")
-        return subprocess.run(["rt", "check"], cwd=crate, stdin=subprocess.DEVNULL, stdout=subprocess.PIPE, stderr=subprocess.STDOUT, text=True).stdout
+    text = (ROOT / "crates" / CRATE / file).read_text(encoding="utf-8")
+    return "\n".join(said_with(CRATE, {f"{CRATE}/{file}": with_function(text, name, change)})[0])
 
 
 def main():
     cases = Cases()
-    needed = with_those_below("row_mover")
+    needed = with_those_below(CRATE)
     prove_changed(needed, Progress(*weights_of(needed)))
     for label, file, name, change, is_right in CASES:
         try:

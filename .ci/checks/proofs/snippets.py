@@ -23,6 +23,7 @@ import shown
 from checking import ROOT, Cases
 
 import api_page
+from items import subject
 
 SNIPPET = re.compile(r"(?:^    .*\n)+", re.MULTILINE)
 SPAN = re.compile(r"`([^`]+)`")
@@ -96,7 +97,7 @@ def undefined(text):
 def calls_of_images():
     """The public calls of images."""
     for it in api_page.crate_of("imgref").entries:
-        of = it.block and (it.block.name if it.block.kind == "trait" else api_page.subject(it.block)[0])
+        of = it.block and (it.block.name if it.block.kind == "trait" else subject(it.block)[0])
         if of in OF_IMAGES and it.item.kind == "fn" and (it.item.is_public or it.block.kind == "trait"):
             yield it.item
 
