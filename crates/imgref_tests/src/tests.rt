@@ -1,8 +1,10 @@
 //! One file for each subject.
 
+mod blurs;
 mod changes;
 mod counts;
 mod equality;
+mod examples;
 mod images;
 mod keys;
 mod means;
@@ -11,6 +13,8 @@ mod padded;
 mod pixel_writes;
 mod pixels;
 mod places;
+mod regions;
+mod row_moves;
 mod row_widths;
 mod row_writes;
 mod rows;
