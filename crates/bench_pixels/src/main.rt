@@ -1,10 +1,10 @@
-//! What is only measured below images: jobs on pixels of three cells, on means, on rows and on
-//! strips, calls on few columns, and turns whose misses in the cache are counted.
+//! What is only measured: jobs on pixels of three cells, on means of pixels, on rows, and on strips.
+//! Calls on few columns are timed, and turns are there whose misses in the cache are counted.
 //!
-//! A job goes over input that a number determines, and the program prints a digest of all results,
-//! and no times: `bench/run` times it. Its words are a job, a size and a number below 2^32. Each
-//! number gives other input of the same kind and size. The words after `widths` and `strides` are
-//! in the modules of these names.
+//! A job goes over input that a number determines. The program prints a digest of all results, and
+//! no times: `bench/run` times it. Its words are a job, a size and a number below 2^32. Each number
+//! gives other input of the same kind and size. After `widths` and `strides` come the words that
+//! the modules of these names read.
 #![tactic(auto)]
 
 mod digest;

@@ -1,8 +1,8 @@
 //! One turn of a square image of zeros, whose misses in the cache `.ci/checks/built/strides.py`
 //! counts.
 //!
-//! The words after `strides` are what to do, the bytes of a pixel, the side in pixels, and the bytes
-//! from a row to the next one. The number of pixels is printed.
+//! The words after `strides` are what to do, the bytes of a pixel, and the side in pixels. The last
+//! one is the bytes from a row to the next one. The number of pixels is printed.
 
 ghost use Rattle.std.specs.Prelude.{◌≡◌, IfOk};
 ghost use Rattle.image_model.specs.Layout.{Fits};
