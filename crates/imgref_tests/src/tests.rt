@@ -1,4 +1,4 @@
-//! One file for each subject.
+//! One file for each subject. The examples, hostile use and tiles have folders.
 
 mod blurs;
 mod changes;
