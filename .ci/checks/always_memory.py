@@ -26,17 +26,17 @@ HANDED_BACK = "if true { return Err(self); }"
 
 # The crate, the file and the function, what is put at its head, and the crate whose tests are run.
 CASES = [
-    ("imgref", "contiguous", "to_contiguous_buf", NO_ROOM, "imgref_hostile_tests"),
-    ("imgref", "copies", "to_owned", NO_ROOM, "imgref_hostile_tests"),
-    ("imgref", "copies", "clone", NO_ROOM, "imgref_hostile_tests"),
-    ("imgref", "cow", "into_owned", HANDED_BACK, "imgref_hostile_tests"),
-    ("imgref", "cow", "into_vec", HANDED_BACK, "imgref_hostile_tests"),
-    ("imgref", "by_place", "from_places", NO_ROOM, "imgref_examples"),
-    ("image_regions", "areas", "integral", NO_ROOM, "image_regions"),
-    ("image_regions", "counting", "histogram_u16", NO_ROOM, "image_regions"),
-    ("image_regions", "entries", "map_by", NO_ROOM, "image_regions"),
-    ("image_regions", "floods", "flood_fill", NO_ROOM, "image_regions"),
-    ("image_regions", "labels", "components", NO_ROOM, "image_regions"),
+    ("imgref", "contiguous", "to_contiguous_buf", NO_ROOM, "imgref_tests"),
+    ("imgref", "copies", "to_owned", NO_ROOM, "imgref_tests"),
+    ("imgref", "copies", "clone", NO_ROOM, "imgref_tests"),
+    ("imgref", "cow", "into_owned", HANDED_BACK, "imgref_tests"),
+    ("imgref", "cow", "into_vec", HANDED_BACK, "imgref_tests"),
+    ("imgref", "by_place", "from_places", NO_ROOM, "imgref_tests"),
+    ("image_regions", "areas", "integral", NO_ROOM, "imgref_tests"),
+    ("image_regions", "counting", "histogram_u16", NO_ROOM, "imgref_tests"),
+    ("image_regions", "entries", "map_by", NO_ROOM, "imgref_tests"),
+    ("image_regions", "floods", "flood_fill", NO_ROOM, "imgref_tests"),
+    ("image_regions", "labels", "components", NO_ROOM, "imgref_tests"),
     ("imgref_replay", "run", "replay", NO_ROOM, "imgref_replay_tests"),
     ("script_text", "script", "next", "if true { return Err(ScriptFault::Memory); }", "imgref_run"),
     ("script_text", "output", "push_reply", NO_MORE_ROOM, "imgref_run"),
@@ -61,13 +61,20 @@ RUNS = [
     ("frame_runs", "program", "run", "if true { return Err(RunFault::Memory(0)); }", VIDEO, FILL),
 ]
 # The files that are kept of a crate with many tests.
-FILES = {"imgref_hostile_tests": ("contiguous", "copies", "fixtures"), "imgref_replay_tests": ("commands", "fixtures")}
+FILES = {
+    "imgref_tests": ("examples/figures", "hostile/contiguous", "hostile/copies", "hostile/fixtures", "regions"),
+    "imgref_replay_tests": ("commands", "fixtures"),
+}
 
 
 def kept_tests(crate):
-    """The list of a crate's files of tests without those that none of the cases needs, where it has many."""
-    path, kept = f"{crate}/src/tests.rt", FILES.get(crate)
-    return {path: re.sub(r"(?m)^mod (\w+);\n", lambda it: it[0] if it[1] in kept else "", (ROOT / "crates" / path).read_text())} if kept else {}
+    """The lists of a crate's files of tests without those that none of the cases needs, where it has many."""
+    files, found = FILES.get(crate, ()), {}
+    for listing in {"tests", *(f"tests/{it}".rpartition("/")[0] for it in files)} if files else ():
+        is_kept = lambda it, at=listing: any(f"tests/{name}/".startswith(f"{at}/{it[1]}/") for name in files)
+        path = f"{crate}/src/{listing}.rt"
+        found[path] = re.sub(r"(?m)^mod (\w+);\n", lambda it: it[0] if is_kept(it) else "", (ROOT / "crates" / path).read_text())
+    return found
 
 
 def with_heads(crate, file, heads):

@@ -17,10 +17,7 @@ mod conditions;
 mod counts;
 mod crop;
 mod drawing;
-#[cfg(test)]
-mod figures;
-#[cfg(test)]
-mod fills;
+mod first_window;
 mod gauss;
 mod halves;
 mod hashes;
@@ -31,8 +28,6 @@ mod literals;
 mod luma;
 mod masks;
 mod nested;
-#[cfg(test)]
-mod outcomes;
 mod overwritten;
 mod paste;
 mod pixels;
@@ -43,8 +38,6 @@ mod scaling;
 mod scenes;
 mod spread;
 mod sums;
-#[cfg(test)]
-mod tests;
 mod thinning;
 mod tiles;
 mod upside_down;
@@ -65,6 +58,7 @@ pub use conditions::{
 pub use counts::count_above;
 pub use crop::{crop_copy, crop_packed};
 pub use drawing::{dot, put_then_get, stripes, three_by_index, three_places};
+pub use first_window::write_through_window;
 pub use gauss::gaussian_3x3;
 pub use halves::halve;
 pub use hashes::have_one_hash;

@@ -4,4 +4,5 @@ mod commands;
 mod fixtures;
 mod layouts;
 mod nested;
+mod parts;
 mod paths;

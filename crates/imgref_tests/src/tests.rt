@@ -1,19 +1,28 @@
-//! One file for each subject.
+//! One file for each subject. The examples, hostile use and tiles have folders.
 
+mod blurs;
 mod changes;
 mod counts;
 mod equality;
+mod examples;
+mod hostile;
 mod images;
 mod keys;
+mod means;
 mod nested_windows;
+mod original;
 mod padded;
 mod pixel_writes;
 mod pixels;
 mod places;
+mod regions;
+mod row_moves;
 mod row_widths;
 mod row_writes;
 mod rows;
 mod rows_by_number;
+mod several_cells;
+mod tiles;
 mod turns;
 mod values;
 mod window_writes;

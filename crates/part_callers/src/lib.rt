@@ -6,8 +6,6 @@ mod bands;
 mod fills;
 mod mosaics;
 mod paths;
-#[cfg(test)]
-mod tests;
 mod tiles;
 
 pub use bands::fill_first_band;

@@ -8,7 +8,5 @@
 mod blocks;
 mod mover;
 mod moves;
-#[cfg(test)]
-mod tests;
 
 pub use mover::RowMover;

@@ -1,3 +1,6 @@
+//! The lines that `original/answers.rs` printed.
+
+pub(crate) const ANSWERS: &str = "\
 image 0 0 0 1
 rows
 rows from the back
@@ -211,3 +214,4 @@ window 1 0 1 1: 3 4, 3 1, 3 4, 3 4: 3
 window 1 0 1 2: 3 5, 3 5, 3 5, 3 5: 3 7
 window 1 1 1 1: 7 1, 7 1, 7 1, 7 1: 7
 written at places 1 2 3 100 50 0 7 8 9
+";

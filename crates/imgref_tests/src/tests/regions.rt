@@ -1,6 +1,6 @@
-//! Each call once, with values that were worked out by hand.
+//! Each call of `image_regions` once, with values that were worked out by hand.
 
-use crate::{
+use image_regions::{
     area, bounding_box, components, equalize, flood_fill, histogram, histogram_u16, integral,
     map_by, sums_fit,
 };
