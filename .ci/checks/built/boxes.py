@@ -14,7 +14,7 @@ from checking import Cases, both_builds
 from edits import edits_of
 from frames import answer
 from tracked import SIZE, TEXTS, by_model, count_lists, differing, options, run, tracks, video
-from tries import ends, lines_said, without_note
+from tries import ends, lines_said, without_note, y4m
 
 # A line that is refused, and what is said of it.
 REFUSED = (
@@ -67,7 +67,8 @@ def by_margin(cases, program):
     for margin in (0, 1, 2, 3, 5, 40, 2**64 - 1):
         wrong = [differing(program, video(sampling, fields=fields), tracks(random.Random(f"{seed} {margin}"), TEXTS["halves"]), margin=margin) for seed, (sampling, fields) in enumerate(KINDS)]
         count_lists(cases, f"made tracks with a margin of {margin} are covered as the model says", wrong)
-    data = video("mono", width=16, height=16)
+    # (no pixel has the value of a cover)
+    data = y4m("mono", 16, 16, [bytes([99]) * 256])
     for name, box, mirrored in (("columns", "17,4,3,3", "-4,4,3,3"), ("rows", "4,17,3,3", "4,-4,3,3")):
         for margin in (None, 0, 1, 2, 3):
             words = [] if margin is None else ["--margin", str(margin)]
