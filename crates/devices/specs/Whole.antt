@@ -8,18 +8,19 @@ use Rattle.devices.specs.declared.whole.LineFault.TheVariants.{NoLine, Reader}
 abbrev pub AppendsBeginning : Option (List ℕ) → Option (List ℕ) → List ℕ → Type 0
 AppendsBeginning old new bytes = (sent : ℕ) × (sent ≤ length bytes) × Appends old new (take sent bytes)
 
--- fewer bytes than so many were read
-pub record GaveFewer (size : ℕ) (old new : Option (List ℕ)) : Type 0 where
+-- bytes were read of which this holds, and no others
+pub record Gave (holds : List ℕ → Type 0) (old new : Option (List ℕ)) : Type 0 where
   pub bytes : List ℕ
-  pub short : length bytes < size
   pub read : Consumes old new bytes
+  pub are : holds bytes
+
+-- they are fewer than so many
+abbrev pub GaveFewer : ℕ → Option (List ℕ) → Option (List ℕ) → Type 0
+GaveFewer size old new = Gave (λ bytes. length bytes < size) old new
 
 -- and none of them is a line feed
-pub record GaveNoFeed (size : ℕ) (old new : Option (List ℕ)) : Type 0 where
-  pub bytes : List ℕ
-  pub short : length bytes < size
-  pub read : Consumes old new bytes
-  pub no_feed : All (λ b. b ≢ 10) bytes
+abbrev pub GaveNoFeed : ℕ → Option (List ℕ) → Option (List ℕ) → Type 0
+GaveNoFeed size old new = Gave (λ bytes. (length bytes < size) × All (λ b. b ≢ 10) bytes) old new
 
 -- there is no line of fewer than so many bytes at the front
 abbrev pub IsNoLine : ℕ → List ℕ → Type 0
