@@ -1,24 +1,24 @@
 -- Where the reader fails, what was read is an input of its own, and what was written is right for it.
-use Rattle.std.proofs.Common.{◌≡◌, ◌≢◌, ℕ, ◌+◌, ◌<◌, zero, suc, true, false, List, [], ◌∷◌, ◌++◌, ◌⊎◌, Option, Some, None, Result, Ok, Err, length, take, refl, sym, ap, ◌∙◌, subst, arith, append-nil, length-append, inl, inr, All}
+use Rattle.std.proofs.Common.{◌≡◌, ◌≢◌, ℕ, ◌+◌, ◌<◌, zero, suc, true, false, List, [], ◌∷◌, ◌++◌, Option, Some, None, Result, Ok, Err, length, take, refl, sym, ap, ◌∙◌, arith, append-nil, inl, inr}
 use Rattle.std.specs.List.{AllByRecursion}
 use Rattle.std.specs.Io.KnownBytes.{Consumes, Appends, Keeps}
 use Rattle.std.proofs.KnownBytes.{Consumes-kept, Consumes-nil, Consumes-trans}
 use Rattle.std.proofs.lemmas.List.Elements.{recursion_from_All}
-use Rattle.devices.specs.Whole.{GaveFewer, GaveNoFeed}
+use Rattle.devices.specs.Whole.{GaveNoFeed}
 use Rattle.frame_edits.specs.Edits.{Edits}
 use Rattle.frame_formats.specs.Recipe.{Recipe}
 use Rattle.frame_formats.specs.declared.plans.PlanFault.{PlanFault}
 use Rattle.frame_formats.specs.declared.plans.PlanFault.TheVariants.{Outside as NoPlan, Memory as NoMemory}
 use Rattle.frame_heads.specs.Picture.{ApartHeads, BeginsWithLetter}
 use Rattle.frame_runs.specs.Failing.{EndsAlone, FramesFail, InputFails, PicturesFail}
-use Rattle.frame_runs.specs.Passing.{CellsCut, IsCut, IsNoNext, LineCut, LineRead, Passed, PassesCells, PassesFrames, PassesPicture, PassesPictures, PictureCut}
+use Rattle.frame_runs.specs.Passing.{CellsCut, LineCut, LineRead, Passed, PassesCells, PassesPicture, PassesPictures}
 use Rattle.frame_runs.specs.Pictures.{IsNoPicture, PictureHead, PictureWithin, behind_letter}
 use Rattle.frame_runs.specs.Program.{IsStream, begins_picture, fault_of_plan}
 use Rattle.frame_runs.specs.Program.Stream.{video}
-use Rattle.frame_runs.specs.Stream.{Piece, IsPiece, piece_text, pieces_text}
+use Rattle.frame_runs.specs.Stream.{Piece, IsPiece, pieces_text}
 use Rattle.frame_runs.specs.Video.{FrameHead, with_head}
 use Rattle.frame_requests.specs.declared.fault.RunFault.{RunFault}
-use Rattle.frame_requests.specs.declared.fault.RunFault.TheVariants.{Header, Outside, Frame, Memory, Input, Output}
+use Rattle.frame_requests.specs.declared.fault.RunFault.TheVariants.{Header, Frame, Input}
 use Rattle.frame_runs.proofs.Carrying.{frames_written, no_first, no_line, pictures_written}
 use Rattle.frame_runs.proofs.FrameLines.{no_feed}
 use Rattle.frame_runs.proofs.Pieces.{pictures_readable, some_text}

@@ -1,5 +1,5 @@
 -- What was read and written where the reader fails.
-use Rattle.std.specs.Prelude.{◌≡◌, ◌≢◌, ℕ, false, List, [], Option, Some, IfSome, Result, Ok, Err}
+use Rattle.std.specs.Prelude.{◌≡◌, ◌≢◌, ℕ, false, List, [], Option, Some, IfSome, Result, Err}
 use Rattle.std.specs.Io.KnownBytes.{Consumes}
 use Rattle.devices.specs.Whole.{Gave}
 use Rattle.frame_edits.specs.Edits.{Edits}
