@@ -1,8 +1,9 @@
 //! Buffers that grow within their capacity, so that memory is touched only as bytes arrive.
 
-ghost use Rattle.std.specs.Prelude.{◌≡◌, ℕ, List, Option, ◌<◌, ◌≤◌, ◌+◌, ◌-◌, ◌^◌, ◌++◌, IfOk, length, max, replicate, take, vec_capacity};
+ghost use Rattle.std.specs.Prelude.{◌≡◌, ℕ, List, Option, ◌<◌, ◌≤◌, ◌+◌, ◌-◌, ◌^◌, ◌++◌, IfOk, OnErr, length, max, replicate, take, vec_capacity};
 ghost use Rattle.std.specs.Io.KnownBytes.{Consumes, IsAtEnd};
 ghost use Rattle.devices.specs.Device.{device_of, failures_of, errors};
+ghost use Rattle.devices.specs.Whole.{GaveFewer};
 
 use crate::counted::Counted;
 use crate::whole::{ReadFailed, fill};
@@ -47,14 +48,17 @@ fn fill_part<R: Read>(
         → Consumes input (R.remaining (device_of reader.old)) (take filled buffer.old)
         → Consumes input (R.remaining (device_of reader.new)) (take (filled + n) buffer.new)) }
     ensures end { IfOk result (λ n. n < more → IsAtEnd (R.remaining (device_of reader.new))) }
+    ensures failed { OnErr result (GaveFewer more
+        (R.remaining (device_of reader.old)) (R.remaining (device_of reader.new))) }
     ensures count { failures_of reader.new ≡ failures_of reader.old + errors result }
 {
     fill(reader, &mut buffer[filled..filled + more])
 }
 
 /// Fills the front of the buffer, so many bytes, as far as the reader goes. Returns the number of
-/// bytes read, which is less only where the reader is at its end. The buffer becomes longer within
-/// its capacity, and only as bytes arrive: by at most 1 MiB more than were read.
+/// bytes read, which is less only where the reader is at its end. A reader that fails gave fewer
+/// bytes. The buffer becomes longer within its capacity, and only as bytes arrive: by at most 1 MiB
+/// more than were read.
 ///
 /// # Requires
 ///
@@ -71,6 +75,8 @@ pub fn fill_front<R: Read>(
     ensures bytes { IfOk result (λ n. Consumes (R.remaining (device_of reader.old))
         (R.remaining (device_of reader.new)) (take n buffer.new.items)) }
     ensures end { IfOk result (λ n. n < size → IsAtEnd (R.remaining (device_of reader.new))) }
+    ensures failed { OnErr result (GaveFewer size
+        (R.remaining (device_of reader.old)) (R.remaining (device_of reader.new))) }
     ensures ahead { IfOk result
         (λ n. length buffer.new.items ≤ max (length buffer.old.items) (n + 2 ^ 20)) }
     ensures most { length buffer.new.items ≤ max (length buffer.old.items) size }

@@ -1,9 +1,9 @@
 //! Whole buffers and lines from a reader, and whole buffers to a writer.
 
 ghost use Rattle.std.specs.Prelude.{◌≡◌, ◌≢◌, ◌<◌, ◌≤◌, ◌+◌, ◌++◌, ◌∷◌, [], All, OnOk, OnErr, IfOk, IfErr, IfSome, IfNone, length, take};
-ghost use Rattle.std.specs.Io.KnownBytes.{Appends, Consumes, IsAtEnd};
+ghost use Rattle.std.specs.Io.KnownBytes.{Appends, Consumes, IsAtEnd, Keeps};
 ghost use Rattle.devices.specs.Device.{device_of, failures_of, errors};
-ghost use Rattle.devices.specs.Whole.{AppendsBeginning, Explains, line_failures};
+ghost use Rattle.devices.specs.Whole.{AppendsBeginning, Explains, GaveFewer, line_failures};
 
 use crate::counted::Counted;
 use std::io::{Read, Write};
@@ -26,7 +26,8 @@ pub enum LineFault {
 }
 
 /// Fills the buffer as far as the reader goes, and returns the number of bytes read. It is less
-/// than the length of the buffer only where the reader is at its end.
+/// than the length of the buffer only where the reader is at its end. A reader that fails gave
+/// fewer bytes.
 ///
 /// # Requires
 ///
@@ -38,6 +39,8 @@ pub fn fill<R: Read>(reader: &mut Counted<R>, buffer: &mut [u8]) -> Result<usize
         (R.remaining (device_of reader.new)) (take n buffer.new)) }
     ensures end { IfOk result
         (λ n. n < length buffer.new → IsAtEnd (R.remaining (device_of reader.new))) }
+    ensures failed { OnErr result (GaveFewer (length buffer.old)
+        (R.remaining (device_of reader.old)) (R.remaining (device_of reader.new))) }
     ensures count { failures_of reader.new ≡ failures_of reader.old + errors result }
 {
     let mut filled = 0;
@@ -51,7 +54,7 @@ pub fn fill<R: Read>(reader: &mut Counted<R>, buffer: &mut [u8]) -> Result<usize
     Ok(filled)
 }
 
-/// The next byte, or `None` where the reader is at its end.
+/// The next byte, or `None` where the reader is at its end. A reader that fails gave no byte.
 ///
 /// # Requires
 ///
@@ -62,6 +65,8 @@ pub fn read_byte<R: Read>(reader: &mut Counted<R>) -> Result<Option<u8>, ReadFai
         (R.remaining (device_of reader.old)) (R.remaining (device_of reader.new)) (byte ∷ []))) }
     ensures end { IfOk result (λ found. IfNone found (Consumes (R.remaining (device_of reader.old))
         (R.remaining (device_of reader.new)) [] × IsAtEnd (R.remaining (device_of reader.new)))) }
+    ensures failed { OnErr result (Keeps (R.remaining (device_of reader.old))
+        (R.remaining (device_of reader.new))) }
     ensures count { failures_of reader.new ≡ failures_of reader.old + errors result }
 {
     let mut one = [0u8; 1];
@@ -80,7 +85,8 @@ pub fn read_byte<R: Read>(reader: &mut Counted<R>) -> Result<Option<u8>, ReadFai
 ///
 /// # Errors
 ///
-/// `NoLine` where there is no line feed within the length of the buffer.
+/// `NoLine` where there is no line feed within the length of the buffer. `Reader` where the reader
+/// failed, which gave fewer bytes and no line feed.
 pub fn read_line<R: Read>(reader: &mut Counted<R>, line: &mut [u8]) -> Result<usize, LineFault>
     requires { failures_of reader.old < u64.MAX }
     ensures within { IfOk result (λ n. n < length line.new) }
@@ -88,7 +94,8 @@ pub fn read_line<R: Read>(reader: &mut Counted<R>, line: &mut [u8]) -> Result<us
         (R.remaining (device_of reader.new)) (take n line.new ++ 10 ∷ [])) }
     ensures feed { IfOk result (λ n. take (n + 1) line.new ≡ take n line.new ++ 10 ∷ []) }
     ensures one_line { IfOk result (λ n. All (λ b. b ≢ 10) (take n line.new)) }
-    ensures fault { IfErr result (Explains (length line.old) (R.remaining (device_of reader.old))) }
+    ensures fault { IfErr result (Explains (length line.old) (R.remaining (device_of reader.old))
+        (R.remaining (device_of reader.new))) }
     ensures count { failures_of reader.new ≡ failures_of reader.old + line_failures result }
 {
     for at in 0..line.len() {

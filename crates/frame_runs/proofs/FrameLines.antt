@@ -1,14 +1,14 @@
 -- The line of a frame is read in one way.
-use Rattle.std.proofs.Common.{◌≡◌, ◌≢◌, ℕ, ◌+◌, ◌<◌, List, [], ◌∷◌, ◌++◌, Option, Some, None, length, take, refl, sym, ap, ◌∙◌, subst, arith, append_assoc, length-append, IfSome, codes}
+use Rattle.std.proofs.Common.{◌≡◌, ◌≢◌, ℕ, ◌+◌, ◌<◌, List, [], ◌∷◌, ◌++◌, ◌⊎◌, Option, Some, None, length, take, refl, sym, ap, ◌∙◌, subst, arith, append_assoc, append-nil, length-append, IfSome, codes, inl, inr}
 use Rattle.std.specs.Io.KnownBytes.{Consumes, Appends, IsAtEnd}
 use Rattle.std.specs.List.{AllByRecursion}
 use Rattle.std.proofs.lemmas.List.{append_cancel_left}
-use Rattle.std.proofs.KnownBytes.{Appends-trans}
+use Rattle.std.proofs.KnownBytes.{Appends-trans, Consumes-trans}
 use lib.Seq.{take-append-add}
 use Rattle.std.proofs.lemmas.List.Elements.{recursion_from_All}
-use Rattle.devices.specs.Whole.{AppendsBeginning}
+use Rattle.devices.specs.Whole.{AppendsBeginning, GaveFewer, GaveNoFeed}
 use Rattle.frame_runs.specs.Video.{AreParameters, frame_line}
-use Rattle.frame_runs.specs.Passing.{IsNoFrameLine}
+use Rattle.frame_runs.specs.Passing.{IsNoFrameLine, LineCut}
 
 -- bytes begin with one line at most
 pub one_front : (xs ys more others : List ℕ) → AllByRecursion (λ b. b ≢ 10) xs → AllByRecursion (λ b. b ≢ 10) ys → xs ++ 10 ∷ more ≡ ys ++ 10 ∷ others → (xs ≡ ys) × (more ≡ others)
@@ -42,6 +42,34 @@ cut_line (Some bytes) (Some rest) got some short read end = record {
   some = λ none. absurd (omega (arith, ap length none, ap length read, length-append got rest, some));
   other = λ parameters more are is.
       omega (arith, ap length is, ap length read, ap length end, length-append got rest, length-append (frame_line parameters) more, length-append (codes "FRAME") (parameters ++ 10 ∷ []), length-append parameters (10 ∷ []), short);
+}
+
+-- bytes without a line feed have no line
+pub no_feed : (xs line more : List ℕ) → AllByRecursion (λ b. b ≢ 10) xs → xs ≡ line ++ 10 ∷ more → ⊥
+no_feed [] [] more free is = absurd (let bad : [] ≡ 10 ∷ more = is in cc)
+no_feed [] (y ∷ line) more free is = absurd (let bad : [] ≡ y ∷ (line ++ 10 ∷ more) = is in cc)
+no_feed (x ∷ xs) [] more free is = free.0 (cc)
+no_feed (x ∷ xs) (y ∷ line) more free is = no_feed xs line more free.1 (cc)
+
+-- so few bytes were read that they are no line
+pub word_cut : (old new : Option (List ℕ)) → GaveFewer 6 old new → LineCut old new
+word_cut old new gave = record { bytes = gave.bytes; read = gave.read; are = few gave.bytes gave.are }
+  where
+    few : (bytes : List ℕ) → length bytes < 6 → (bytes ≡ []) ⊎ IsNoFrameLine bytes
+    few [] short = inl refl
+    few (b ∷ bytes) short = inr (cut_line (Some (b ∷ bytes)) (Some []) (b ∷ bytes) (omega arith) short (sym (append-nil (b ∷ bytes))) refl)
+
+-- the word and a space were read, and then no line feed
+pub parameters_cut : (old mid new : Option (List ℕ)) (word : List ℕ) (size : ℕ) → word ≡ codes "FRAME" ++ 32 ∷ [] → Consumes old mid word → GaveNoFeed size mid new → LineCut old new
+parameters_cut old mid new word size is read gave = record {
+  bytes = word ++ gave.bytes;
+  read = Consumes-trans old mid new word gave.bytes read gave.read;
+  are = inr (record {
+    some = λ none. omega (arith, ap length none, length-append word gave.bytes, ap length is);
+    other = λ parameters more are line.
+        let tails : 32 ∷ gave.bytes ≡ parameters ++ 10 ∷ more = append_cancel_left (codes "FRAME") _ _ (ap (λ l. l ++ gave.bytes) (sym is) ∙ line ∙ behind_word parameters more) in
+        no_feed (32 ∷ gave.bytes) parameters more ((λ e. absurd (omega (arith, e))), recursion_from_All _ gave.bytes gave.are.1) tails;
+  });
 }
 
 -- ---- a line that was read

@@ -1,13 +1,13 @@
 -- The head of a picture, read a byte at a time.
 use Rattle.std.proofs.Common.{◌≡◌, ℕ, ◌<◌, ◌≤◌, ◌+◌, List, [], ◌∷◌, ◌++◌, ◌⊎◌, Option, Some, None, refl, sym, ap, ◌∙◌, append-nil, inl, inr, length, length-append, arith, IfSome}
-use Rattle.std.specs.Io.KnownBytes.{Consumes}
-use Rattle.std.proofs.KnownBytes.{Consumes-trans}
+use Rattle.std.specs.Io.KnownBytes.{Consumes, Keeps}
+use Rattle.std.proofs.KnownBytes.{Consumes-kept, Consumes-trans}
 use Rattle.frame_heads.specs.Picture.{picture_of, scanned, pushed, start, done_as, OneByteMore, BadStays, BeginsWithLetter}
 use Rattle.frame_edits.specs.Edits.{Edits}
 use Rattle.frame_heads.specs.declared.picture.Picture.{Picture}
 use Rattle.frame_heads.specs.declared.picture.Scan.{Scan}
 use Rattle.frame_heads.specs.declared.picture.Scan.TheVariants.{Bad}
-use Rattle.frame_runs.specs.Pictures.{IsNoPicture, HeadBegun, behind_letter}
+use Rattle.frame_runs.specs.Pictures.{IsNoPicture, HeadBegun, HeadCut, behind_letter}
 use Rattle.frame_runs.specs.Passing.{IsNoNext}
 
 -- ---- lists
@@ -85,6 +85,17 @@ pub head_long : (count : ℕ) (scan : Scan) (old new : Option (List ℕ)) → He
 head_long count scan None new h many = tt
 head_long count scan (Some bytes) None h many = absurd h.read
 head_long count scan (Some bytes) (Some left) h many = long_head count many scan (Some bytes) (Some left) h (80 ∷ bytes) left h.read
+
+-- the reader failed before the head was whole
+pub head_cut : (count : ℕ) (scan : Scan) (old mid new : Option (List ℕ)) → HeadBegun count scan old mid → done_as scan ≡ None → Keeps mid new → HeadCut old new
+head_cut count scan old mid new h goes_on kept = record {
+  bytes = h.bytes;
+  read = Consumes-kept (behind_letter old) mid new h.bytes h.read kept;
+  are = (
+    λ none. omega (arith, ap length none, h.count_is),
+    λ picture head more is_head is. no_head_yet count scan old mid h goes_on picture head more is_head.named h.bytes is (λ l same. h.scan_is ∙ ap (scanned start) (sym same)) (h.none picture head more is_head.named is),
+  );
+}
 
 -- ---- no pictures
 

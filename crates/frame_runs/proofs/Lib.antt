@@ -2,6 +2,7 @@ pub mod CarriedPieces
 pub mod Carrying
 pub mod CellsRead
 pub mod Covered
+pub mod Failing
 pub mod FrameLines
 pub mod HandedOn
 pub mod Heads

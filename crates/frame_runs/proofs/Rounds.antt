@@ -59,7 +59,7 @@ module _ (video : Recipe) (n len : ℕ) (within : n < 18446744073709551615) (lin
   frame_stopped (Frame k) c = ends_at (FrameHead video) n r0 r1 w0 w1 p (IsNoFrame video)
       (if_some (IsCut (FrameHead video)) (IsNoFrame video n) (λ bytes cut. inr (inr cut)) r1 (cut_piece (FrameHead video) (frames_readable video) (take len line) c.1.cells (with_head (take len line) video) r1 r2 r3 frame_head found.read c.1.read c.1.short c.1.end)) k c.0 w2 c.2
   frame_stopped Output c = cells_begun (FrameHead video) n r0 r1 w0 w1 p within (take len line) (with_head (take len line) video) frame_head r2 r3 found.read w2 c
-  frame_stopped Input c = ends_some (FrameHead video) n r0 r1 w0 w1 p Anything (nothing_said n r1) w2 c
+  frame_stopped Input c = ends_some (FrameHead video) n r0 r1 w0 w1 p Anything (nothing_said n r1) w2 c.1
   frame_stopped _ c = absurd c
 
 -- where no frame follows
@@ -95,7 +95,15 @@ module _ (apart : ApartHeads) (letter : BeginsWithLetter) (limit : ℕ) (edit : 
     c.2,
   )
   picture_made (Err Output) c = (piece head c.cells recipe, (head_within, c.sized), Consumes-trans r1 r2 r3 head c.cells read c.read, c.written)
-  picture_made (Err Input) c = c
+  picture_made (Err Input) c =
+      let cut : IsCut (PictureHead edit) (head ++ c.0.bytes) = record { head = head; cells = c.0.bytes; recipe = recipe; is = picture_head; short = c.0.are; read = refl } in (
+        record {
+          bytes = head ++ c.0.bytes;
+          read = Consumes-trans r1 r2 r3 head c.0.bytes read c.0.read;
+          are = (cut_some (PictureHead edit) (pictures_readable apart letter edit) (head ++ c.0.bytes) cut, inr cut);
+        },
+        c.1,
+      )
   picture_made _ c = absurd c
 
 -- no plan for the picture whose head was read
@@ -148,7 +156,7 @@ module _ (limit : ℕ) (edit : Edits) (n : ℕ) (r0 r1 r2 w0 w1 w2 : Option (Lis
       (keeps_none q.pieces w0 w2 q.count_is q.written, reads_none IsNoPicture q.pieces r0 r1 q.count_is q.read c.1)
   picture_stopped Outside c = ends_some (PictureWithin limit edit) n r0 r1 w0 w1 p (IsNotEditedNext edit) (if_some (IsPictureNotEdited edit) (IsNotEditedNext edit n) (λ bytes not. (within, not)) r1 c.0) w2 c.1
   picture_stopped (Memory k) c = ends_at (PictureWithin limit edit) n r0 r1 w0 w1 p AtHead c.1 k c.0 w2 c.2
-  picture_stopped Input c = ends_some (PictureWithin limit edit) n r0 r1 w0 w1 p Anything (nothing_said n r1) w2 c
+  picture_stopped Input c = ends_some (PictureWithin limit edit) n r0 r1 w0 w1 p Anything (nothing_said n r1) w2 c.1
 
 -- the letter of the next picture
 pub none_read : (old new : Option (List ℕ)) → Consumes old new (80 ∷ []) → Consumes old (behind_letter new) []

@@ -1,4 +1,5 @@
 pub mod Alike
+pub mod Failing
 pub mod Fault
 pub mod Kept
 pub mod Limit

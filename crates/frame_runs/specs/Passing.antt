@@ -2,7 +2,7 @@
 use Rattle.std.specs.Prelude.{◌≡◌, ◌≢◌, ◌⊎◌, ℕ, ◌<◌, ◌≤◌, ◌^◌, List, [], ◌∷◌, ◌++◌, length, take, codes, Option, Result, Ok, Err, IfSome}
 use Rattle.std.specs.List.{AllByRecursion}
 use Rattle.std.specs.Io.KnownBytes.{Consumes, Appends, Keeps, IsAtEnd}
-use Rattle.devices.specs.Whole.{AppendsBeginning}
+use Rattle.devices.specs.Whole.{AppendsBeginning, Gave, GaveFewer}
 use Rattle.frame_edits.specs.Edits.{Edits}
 use Rattle.frame_formats.specs.Recipe.{Recipe}
 use Rattle.frame_runs.specs.Stream.{Piece, IsPiece, piece_text, pieces_text, made_text, all_made}
@@ -30,7 +30,7 @@ IsWord NoWord word old new = IfSome old IsNoFrameLine
 
 abbrev pub WordIs : Result Begin RunFault → List ℕ → Option (List ℕ) → Option (List ℕ) → Type 0
 WordIs (Ok begin) word old new = IsWord begin word old new
-WordIs (Err e) word old new = e ≡ Input
+WordIs (Err e) word old new = (e ≡ Input) × GaveFewer 6 old new
 
 -- the line of a frame was read into the front of a buffer
 pub record LineRead (len : ℕ) (line : List ℕ) (old new : Option (List ℕ)) : Type 0 where
@@ -46,9 +46,13 @@ IsLineFound (Frame len) line old new = LineRead len line old new
 IsLineFound End line old new = Consumes old new [] × IsAtEnd new
 IsLineFound Other line old new = IfSome old IsNoFrameLine
 
+-- the reader failed before the line of a frame, or within it
+abbrev pub LineCut : Option (List ℕ) → Option (List ℕ) → Type 0
+LineCut old new = Gave (λ bytes. (bytes ≡ []) ⊎ IsNoFrameLine bytes) old new
+
 abbrev pub LineIs : Result Found RunFault → List ℕ → Option (List ℕ) → Option (List ℕ) → Type 0
 LineIs (Ok found) line old new = IsLineFound found line old new
-LineIs (Err e) line old new = e ≡ Input
+LineIs (Err e) line old new = (e ≡ Input) × LineCut old new
 
 -- there are fewer cells after a head than it has
 pub record IsCut (heads : List ℕ → Recipe → Type 0) (bytes : List ℕ) : Type 0 where
@@ -125,7 +129,7 @@ abbrev pub PassesCells : Result (Unit {0}) RunFault → Recipe → ℕ → Optio
 PassesCells (Ok x) recipe number input left old new = CellsPassed (Appends old new) recipe number input left
 PassesCells (Err (BadFrame n)) recipe number input left old new = (n ≡ number) × CellsCut recipe.size input left × (new ≡ old)
 PassesCells (Err Output) recipe number input left old new = CellsPassed (AppendsBeginning old new) recipe number input left
-PassesCells (Err Input) recipe number input left old new = new ≡ old
+PassesCells (Err Input) recipe number input left old new = GaveFewer recipe.size input left × (new ≡ old)
 PassesCells (Err Header) recipe number input left old new = ⊥
 PassesCells (Err Outside) recipe number input left old new = ⊥
 PassesCells (Err (Memory n)) recipe number input left old new = ⊥
@@ -160,6 +164,10 @@ PassesPictures (Err Header) limit edit input left old new = Keeps old new × IfS
 PassesPictures (Err Outside) limit edit input left old new = PassedSome (PictureWithin limit edit) (IsNotEditedNext edit) input old new
 PassesPictures (Err (Memory n)) limit edit input left old new = PassedUpTo (PictureWithin limit edit) AtHead n input old new
 
+-- the reader failed within a picture, whose first letter was read
+abbrev pub PictureCut : Edits → Option (List ℕ) → Option (List ℕ) → Type 0
+PictureCut edit old new = Gave (λ bytes. (bytes ≢ []) × (IsNoPicture bytes ⊎ IsCut (PictureHead edit) bytes)) old new
+
 -- what a run over the picture of this number has, which returns its size and kind
 abbrev pub PassesPicture : Result Picture RunFault → ℕ → Edits → ℕ → Option (List ℕ) → Option (List ℕ) → Option (List ℕ) → Option (List ℕ) → Type 0
 PassesPicture (Ok picture) limit edit number input left old new = (p : Piece) × (is : IsPiece (PictureWithin limit edit) p) × (is.0.is.picture ≡ picture) × Consumes input left (piece_text p) × Appends old new (made_text number p)
@@ -168,4 +176,4 @@ PassesPicture (Err Output) limit edit number input left old new = (p : Piece) ×
 PassesPicture (Err Header) limit edit number input left old new = (number ≡ 0) × IfSome input IsNoPicture × (new ≡ old)
 PassesPicture (Err Outside) limit edit number input left old new = IfSome input (IsPictureNotEdited edit) × (new ≡ old)
 PassesPicture (Err (Memory n)) limit edit number input left old new = (n ≡ number) × IfSome input BeginsPicture × (new ≡ old)
-PassesPicture (Err Input) limit edit number input left old new = new ≡ old
+PassesPicture (Err Input) limit edit number input left old new = PictureCut edit input left × (new ≡ old)

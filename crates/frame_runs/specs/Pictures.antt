@@ -1,7 +1,8 @@
 -- The heads of pictures, and what edits are for each.
-use Rattle.std.specs.Prelude.{◌≡◌, ◌≤◌, ◌+◌, ℕ, List, [], ◌∷◌, ◌++◌, Option, Some, None, Result, Ok, Err, IfSome, length}
+use Rattle.std.specs.Prelude.{◌≡◌, ◌≢◌, ◌≤◌, ◌+◌, ℕ, List, [], ◌∷◌, ◌++◌, Option, Some, None, Result, Ok, Err, IfSome, length}
 use Rattle.std.specs.Option.{option_map}
 use Rattle.std.specs.Io.KnownBytes.{Consumes}
+use Rattle.devices.specs.Whole.{Gave}
 use Rattle.frame_heads.specs.Picture.{picture_of, scanned, start}
 use Rattle.frame_edits.specs.Edits.{Edits}
 use Rattle.frame_formats.specs.Recipe.{Recipe, buffers_len, picture_recipe}
@@ -52,9 +53,13 @@ abbrev pub IsHeadFound : Option Picture → Option (List ℕ) → Option (List �
 IsHeadFound (Some picture) old new = (head : List ℕ) × IsHead head picture × Consumes (behind_letter old) new head
 IsHeadFound None old new = IfSome (behind_letter old) IsNoPicture
 
+-- the reader failed within a head, whose first letter was read
+abbrev pub HeadCut : Option (List ℕ) → Option (List ℕ) → Type 0
+HeadCut old new = Gave (λ bytes. (bytes ≢ []) × IsNoPicture bytes) (behind_letter old) new
+
 abbrev pub HeadIs : Result (Option Picture) RunFault → Option (List ℕ) → Option (List ℕ) → Type 0
 HeadIs (Ok found) old new = IsHeadFound found old new
-HeadIs (Err e) old new = e ≡ Input
+HeadIs (Err e) old new = (e ≡ Input) × HeadCut old new
 
 -- so many bytes that were read after a letter took the scan this far, and no beginning of them, except all, is a head
 pub record HeadBegun (count : ℕ) (scan : Scan) (old new : Option (List ℕ)) : Type 0 where

@@ -3,7 +3,7 @@
 ghost use Rattle.std.specs.Prelude.{◌≡◌, ◌+◌, ◌≤◌, ◌<◌, ◌++◌, length, take, vec_capacity, IfOk, OnOk, OnErr};
 ghost use Rattle.std.specs.Io.KnownBytes.{Appends, Consumes, IsAtEnd};
 ghost use Rattle.devices.specs.Device.{device_of, failures_of, errors};
-ghost use Rattle.devices.specs.Whole.{AppendsBeginning};
+ghost use Rattle.devices.specs.Whole.{AppendsBeginning, GaveFewer};
 ghost use Rattle.frame_formats.specs.Planned.{recipe_of, plan_room, plan_other_room};
 ghost use Rattle.image_planes.specs.Scratch.{HasRoom, KeepsRoom};
 ghost use Rattle.frame_runs.specs.Fault.{CanCount, Counts};
@@ -81,6 +81,8 @@ fn take_cells<R: Read>(
     ensures whole { IfOk result (λ n. (recipe_of plan.now).size ≤ n
         → (n ≡ (recipe_of plan.now).size) × (plan_room plan.now ≤ length cells.new.items)
         × (plan_other_room plan.now ≤ length other.new.items)) }
+    ensures failed { OnErr result (GaveFewer (recipe_of plan.now).size
+        (R.remaining (device_of reader.old)) (R.remaining (device_of reader.new))) }
     ensures same_room { vec_capacity cells.old ≤ vec_capacity cells.new }
     ensures same_other_room { vec_capacity other.old ≤ vec_capacity other.new }
     ensures count { failures_of reader.new ≡ failures_of reader.old + errors result }

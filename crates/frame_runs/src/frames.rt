@@ -4,6 +4,7 @@ ghost use Rattle.std.specs.Prelude.{◌≡◌, ◌+◌, ◌≤◌, ◌<◌, leng
 ghost use Rattle.devices.specs.Device.{device_of, failures_of};
 ghost use Rattle.frame_formats.specs.Planned.{recipe_of, plan_room, plan_other_room};
 ghost use Rattle.image_planes.specs.Scratch.{HasRoom};
+ghost use Rattle.frame_runs.specs.Failing.{FramesFail};
 ghost use Rattle.frame_runs.specs.Fault.{CanCount, Counts, reader_failures};
 ghost use Rattle.frame_runs.specs.Passing.{WordIs, LineIs, PassesFrames};
 
@@ -101,6 +102,9 @@ pub(crate) fn pass_frames<R: Read, W: Write>(
     requires scratch { HasRoom (recipe_of plan.now).jobs scratch.old }
     requires counts { CanCount (failures_of reader.old) (failures_of writer.old) }
     ensures passes { PassesFrames result (recipe_of plan.now)
+        (R.remaining (device_of reader.old)) (R.remaining (device_of reader.new))
+        (W.contents (device_of writer.old)) (W.contents (device_of writer.new)) }
+    ensures fails { FramesFail result (recipe_of plan.now)
         (R.remaining (device_of reader.old)) (R.remaining (device_of reader.new))
         (W.contents (device_of writer.old)) (W.contents (device_of writer.new)) }
     ensures counts { Counts result (failures_of reader.old) (failures_of reader.new)

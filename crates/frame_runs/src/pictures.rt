@@ -5,6 +5,7 @@ ghost use Rattle.devices.specs.Device.{device_of, failures_of};
 ghost use Rattle.frame_formats.specs.Planned.{recipe_of};
 ghost use Rattle.frame_formats.specs.Recipe.{picture_recipe};
 ghost use Rattle.image_planes.specs.Scratch.{scratch_len};
+ghost use Rattle.frame_runs.specs.Failing.{PicturesFail};
 ghost use Rattle.frame_runs.specs.Fault.{CanCount, Counts, reader_failures};
 ghost use Rattle.frame_runs.specs.Kept.{IsKept, kept_picture, picture_in, HasNoPlan, NeedsMemory, PictureStops, PicturesStop};
 ghost use Rattle.frame_runs.specs.Passing.{PassesPicture, PassesPictures};
@@ -233,6 +234,9 @@ pub(crate) fn pass_pictures<R: Read, W: Write>(
 ) -> Result<u64, RunFault>
     requires counts { CanCount (failures_of reader.old) (failures_of writer.old) }
     ensures passes { PassesPictures result request.entry.limit (edits_of request.entry)
+        (behind_letter (R.remaining (device_of reader.old))) (R.remaining (device_of reader.new))
+        (W.contents (device_of writer.old)) (W.contents (device_of writer.new)) }
+    ensures fails { PicturesFail result request.entry.limit (edits_of request.entry)
         (behind_letter (R.remaining (device_of reader.old))) (R.remaining (device_of reader.new))
         (W.contents (device_of writer.old)) (W.contents (device_of writer.new)) }
     ensures stops { PicturesStop result (edits_of request.entry)

@@ -2,6 +2,7 @@
 
 ghost use Rattle.std.specs.Prelude.{◌≡◌, ◌≢◌, ◌<◌, ◌+◌, ◌++◌, ◌∷◌, ◌≤◌, [], All, IfErr, IfOk, length, vec_capacity, false};
 ghost use Rattle.devices.specs.Device.{device_of, failures_of};
+ghost use Rattle.frame_runs.specs.Failing.{InputFails, InputFailsAfter};
 ghost use Rattle.frame_runs.specs.Fault.{CanCount, Counts, reader_failures, writer_failures};
 ghost use Rattle.frame_edits.specs.Edits.{edits};
 ghost use Rattle.frame_formats.specs.Planned.{recipe_of, plan_room, plan_other_room};
@@ -82,6 +83,9 @@ fn run_video<R: Read, W: Write>(
     ensures follows { Follows result (edits_of request.entry) (line.now ++ 10 ∷ [])
         (R.remaining (device_of reader.old)) (W.contents (device_of writer.old))
         (W.contents (device_of writer.new)) }
+    ensures fails { InputFailsAfter result (edits_of request.entry) (line.now ++ 10 ∷ [])
+        (R.remaining (device_of reader.old)) (R.remaining (device_of reader.new))
+        (W.contents (device_of writer.old)) (W.contents (device_of writer.new)) }
     ensures limit { KeepsLimitAfter result request.entry.limit (edits_of request.entry)
         (line.now ++ 10 ∷ []) (R.remaining (device_of reader.old))
         (W.contents (device_of writer.old)) (W.contents (device_of writer.new)) }
@@ -134,6 +138,9 @@ fn carry_video<R: Read, W: Write>(
     ensures follows { Follows result (edits_of request.entry) (first ∷ [])
         (R.remaining (device_of reader.old)) (W.contents (device_of writer.old))
         (W.contents (device_of writer.new)) }
+    ensures fails { InputFailsAfter result (edits_of request.entry) (first ∷ [])
+        (R.remaining (device_of reader.old)) (R.remaining (device_of reader.new))
+        (W.contents (device_of writer.old)) (W.contents (device_of writer.new)) }
     ensures limit { KeepsLimitAfter result request.entry.limit (edits_of request.entry)
         (first ∷ []) (R.remaining (device_of reader.old)) (W.contents (device_of writer.old))
         (W.contents (device_of writer.new)) }
@@ -178,6 +185,12 @@ pub fn run<R: Read, W: Write>(
     // beginning of that video, as the fault says.
     ensures written { Writes result (edits steps.now framing) (R.remaining (device_of reader.old))
         (W.contents (device_of writer.old)) (W.contents (device_of writer.new)) }
+
+    // Where the reader fails, what was written is what a run over an input of exactly the bytes that
+    // were read writes, if neither a device nor memory ends it.
+    ensures input { InputFails result (edits steps.now framing) (R.remaining (device_of reader.old))
+        (R.remaining (device_of reader.new)) (W.contents (device_of writer.old))
+        (W.contents (device_of writer.new)) }
 
     // Whatever was written is of frames or pictures for which the buffers need at most `limit` bytes
     // together.

@@ -4,7 +4,8 @@ use Rattle.devices.specs.Device.{device_of}
 use Rattle.frame_formats.specs.Planned.{recipe_of}
 use Rattle.frame_runs.specs.Request.{edits_of}
 use Rattle.frame_runs.specs.Kept.{kept_picture, picture_in, PictureStops}
-use Rattle.frame_runs.specs.Passing.{PassesPicture}
+use Rattle.frame_runs.specs.Passing.{PassesPicture, PictureCut}
+use Rattle.frame_requests.specs.declared.fault.RunFault.{RunFault}
 use Rattle.frame_runs.specs.Pictures.{IsHead, behind_letter}
 use Rattle.frame_runs.specs.Seen.{SeesNext, SeesPicture}
 use Rattle.frame_runs.proofs.HandedOn.{handed_on}
@@ -15,6 +16,18 @@ use Rattle.frame_runs.proofs.pictures.pass_picture.Goals as goal
 
 pub returns-in_default-clause-passes : goal.returns-in_default-clause-passes
 returns-in_default-clause-passes g c = (refl, no_next (edits_of c.args.request) c.args.number (omega arith) (g.R.Read.remaining (device_of c.args.reader.now)) (rw c.in_default.is at c.in_ok-picture.ensures.head), refl)
+
+-- the reader failed within the head
+pub returns-in_err-picture-clause-passes : goal.returns-in_err-picture-clause-passes
+returns-in_err-picture-clause-passes g c =
+    let w = g.W.Write.contents (device_of c.args.writer.now) in
+    let old = behind_letter (g.R.Read.remaining (device_of c.args.reader.now)) in
+    let new = g.R.Read.remaining (device_of c.read_head.new.reader) in
+    let head = c.in_err-picture.ensures.head in
+    let cut : PictureCut (edits_of c.args.request) old new = record { bytes = head.1.bytes; read = head.1.read; are = (head.1.are.0, inl head.1.are.1) } in
+    handed_on (λ r. PassesPicture (picture_in r) c.args.request.limit (edits_of c.args.request) c.args.number old new w w)
+    c.from_residual.result c.in_err-picture.field-0.0 c.from_residual.ensures
+    (subst (λ (e : RunFault). PassesPicture (Err e) c.args.request.limit (edits_of c.args.request) c.args.number old new w w) (sym head.0) (cut, refl))
 
 -- the edits don't suit the picture, or there is no memory for its plan
 pub returns-in_err-made-clause-passes : goal.returns-in_err-made-clause-passes

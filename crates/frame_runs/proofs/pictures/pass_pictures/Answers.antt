@@ -5,10 +5,12 @@ use Rattle.std.proofs.lemmas.Grind.{common_steps}
 use Rattle.devices.specs.Device.{device_of}
 use Rattle.frame_runs.specs.Request.{edits_of}
 use Rattle.frame_runs.specs.Pictures.{PictureWithin, behind_letter}
+use Rattle.frame_runs.specs.Failing.{PicturesFail}
 use Rattle.frame_runs.specs.Kept.{PicturesStop}
 use Rattle.frame_runs.specs.Passing.{Passed, PassesPictures}
 use Rattle.frame_runs.specs.Seen.{PicturesSee, SeesPictures}
 use Rattle.frame_requests.specs.declared.fault.RunFault.TheVariants.{Input}
+use Rattle.frame_runs.proofs.Failing.{next_failed, picture_failed}
 use Rattle.frame_runs.proofs.HandedOn.{handed_on}
 use Rattle.frame_runs.proofs.Heads.{other_letter, last_letter}
 use Rattle.frame_runs.proofs.OneMore.{passed_on}
@@ -52,6 +54,20 @@ returns-in_err-read_byte-clause-passes g c =
         ends = nothing_said (c.loop-number.number + 1) left;
       };
     })
+
+-- where the reader failed, what it gave is an input of its own
+pub returns-in_err-pass_picture-clause-fails : goal.returns-in_err-pass_picture-clause-fails
+returns-in_err-pass_picture-clause-fails g c =
+    handed_on (λ r. PicturesFail r c.args.request.limit (edits_of c.args.request) (behind_letter (g.R.Read.remaining (device_of c.args.reader.now))) (g.R.Read.remaining (device_of c.pass_picture.new.reader)) (g.W.Write.contents (device_of c.args.writer.now)) (g.W.Write.contents (device_of c.pass_picture.new.writer)))
+    c.from_residual.result c.in_err-pass_picture.field-0.0 c.from_residual.ensures
+    (picture_failed c.args.request.limit (edits_of c.args.request) c.loop-number.number _ _ _ _ _ _ (omega arith) c.loop-number.invariant.passed.passed c.in_err-pass_picture.field-0.0 c.in_err-pass_picture.ensures.passes)
+
+pub returns-in_err-read_byte-clause-fails : goal.returns-in_err-read_byte-clause-fails
+returns-in_err-read_byte-clause-fails g c =
+    handed_on (λ r. PicturesFail r c.args.request.limit (edits_of c.args.request) (behind_letter (g.R.Read.remaining (device_of c.args.reader.now))) (g.R.Read.remaining (device_of c.read_byte.new.reader)) (g.W.Write.contents (device_of c.args.writer.now)) (g.W.Write.contents (device_of c.pass_picture.new.writer)))
+    c.from_residual-in_err-read_byte.result Input c.from_residual-in_err-read_byte.ensures
+    (next_failed c.heads_end_themselves.ensures.apart c.heads_end_themselves.ensures.begins c.args.request.limit (edits_of c.args.request) c.loop-number.number _ _ _ _ _
+    (picture_passed c.args.request.limit (edits_of c.args.request) c.loop-number.number _ _ _ _ _ _ (omega arith) c.loop-number.invariant.passed.passed c.in_ok-pass_picture.field-0.picture c.in_ok-pass_picture.ensures.passes) c.in_err-read_byte.ensures.failed)
 
 pub loop-number-init : goal.loop-number-init
 loop-number-init g c = record {

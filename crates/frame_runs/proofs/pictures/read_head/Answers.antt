@@ -1,11 +1,13 @@
 -- The scan goes on a byte at a time.
-use Rattle.std.proofs.Common.{◌+◌, arith, sym, ap, ◌∙◌, subst}
+use Rattle.std.proofs.Common.{◌+◌, arith, refl, sym, ap, ◌∙◌, subst}
 use Rattle.std.proofs.lemmas.Grind.{common_steps}
 use Rattle.devices.specs.Device.{device_of}
 use Rattle.frame_heads.specs.Picture.{pushed, done_as}
 use Rattle.frame_heads.specs.declared.picture.Scan.{Scan}
-use Rattle.frame_runs.specs.Pictures.{HeadBegun}
-use Rattle.frame_runs.proofs.Heads.{begun_letter, begun_more, head_bad, head_long}
+use Rattle.frame_runs.specs.Pictures.{HeadBegun, HeadIs}
+use Rattle.frame_requests.specs.declared.fault.RunFault.TheVariants.{Input}
+use Rattle.frame_runs.proofs.HandedOn.{handed_on}
+use Rattle.frame_runs.proofs.Heads.{begun_letter, begun_more, head_bad, head_cut, head_long}
 use Rattle.frame_runs.proofs.pictures.read_head.Goals as goal
 
 pub loop-count-init : goal.loop-count-init
@@ -32,3 +34,11 @@ loop-count-preserved g c =
 -- no head ends within so many bytes
 pub returns-clause-head : goal.returns-clause-head
 returns-clause-head g c = head_long c.loop-count._count c.loop-count.scan (g.R.Read.remaining (device_of c.args.reader.now)) (g.R.Read.remaining (device_of c.loop-count.reader)) c.loop-count.invariant.begun (omega arith)
+
+-- the reader failed within the head
+pub returns-in_err-byte-clause-head : goal.returns-in_err-byte-clause-head
+returns-in_err-byte-clause-head g c =
+    let old = g.R.Read.remaining (device_of c.args.reader.now) in
+    let new = g.R.Read.remaining (device_of c.read_byte.new.reader) in
+    handed_on (λ r. HeadIs r old new) c.from_residual.result Input c.from_residual.ensures
+    (refl, head_cut c.loop-count._count c.loop-count.scan old (g.R.Read.remaining (device_of c.loop-count.reader)) new c.loop-count.invariant.begun (ap done_as c.in-More.is) c.in_err-byte.ensures.failed)

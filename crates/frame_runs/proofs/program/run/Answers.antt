@@ -8,6 +8,7 @@ use Rattle.frame_runs.specs.Program.{Writes}
 use Rattle.frame_requests.specs.declared.fault.RunFault.TheVariants.{Header}
 use Rattle.frame_runs.proofs.Carrying.{behind_first}
 use Rattle.frame_runs.proofs.Covered.{hides_covered, one_output_covered, one_seen_covered}
+use Rattle.frame_runs.proofs.Failing.{first_failed, pictures_failed}
 use Rattle.frame_runs.proofs.Hiding.{Laws, hides}
 use Rattle.frame_runs.proofs.OneOutput.{one_output}
 use Rattle.frame_runs.proofs.OneSeen.{one_seen}
@@ -27,6 +28,15 @@ pictures_written g c = behind_first c.args.limit (edits c.args.steps.now c.args.
 
 pub returns-in-Ok-Some-eq80-clause-written : goal.returns-in-Ok-Some-eq80-clause-written
 returns-in-Ok-Some-eq80-clause-written g c = pictures_written g (goal.at.returns-in-Ok-Some-eq80-clause-written g c).After-pass_pictures
+
+-- the reader failed after the first byte, or before it
+pub returns-in-Ok-Some-eq80-clause-input : goal.returns-in-Ok-Some-eq80-clause-input
+returns-in-Ok-Some-eq80-clause-input g c = pictures_failed c.args.limit (edits c.args.steps.now c.args.framing) c.pass_pictures.result (g.R.Read.remaining (device_of c.read_byte.new.reader)) (g.R.Read.remaining (device_of c.pass_pictures.new.reader))
+    (g.W.Write.contents (device_of c.args.writer.now)) (g.W.Write.contents (device_of c.pass_pictures.new.writer)) c.pass_pictures.ensures.fails (g.R.Read.remaining (device_of c.args.reader.now))
+    (subst (λ b. Consumes (g.R.Read.remaining (device_of c.args.reader.now)) (g.R.Read.remaining (device_of c.read_byte.new.reader)) (b ∷ [])) c.in-Ok-Some-eq80.field-0-0-test (rw c.in-Ok-Some-eq80.field-0-is at c.in-Ok-Some-eq80.ensures.byte))
+
+pub returns-in-Err-clause-input : goal.returns-in-Err-clause-input
+returns-in-Err-clause-input g c = first_failed (edits c.args.steps.now c.args.framing) (g.R.Read.remaining (device_of c.args.reader.now)) (g.R.Read.remaining (device_of c.read_byte.new.reader)) (g.W.Write.contents (device_of c.args.writer.now)) c.in-Err.ensures.failed
 
 pub returns-in-Ok-Some-eq80-clause-limit : goal.returns-in-Ok-Some-eq80-clause-limit
 returns-in-Ok-Some-eq80-clause-limit g c = within_first c.args.limit (edits c.args.steps.now c.args.framing) c.pass_pictures.result (g.R.Read.remaining (device_of c.args.reader.now)) (g.R.Read.remaining (device_of c.read_byte.new.reader)) (g.R.Read.remaining (device_of c.pass_pictures.new.reader))

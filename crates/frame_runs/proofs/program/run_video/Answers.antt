@@ -8,12 +8,14 @@ use Rattle.devices.specs.Device.{device_of}
 use Rattle.frame_formats.specs.Planned.{recipe_of}
 use Rattle.frame_runs.specs.Request.{edits_of}
 use Rattle.frame_runs.specs.Kept.{VideoStops}
+use Rattle.frame_runs.specs.Failing.{InputFails}
 use Rattle.frame_runs.specs.Limit.{KeepsLimit}
 use Rattle.frame_runs.specs.Program.{Follows, Writes}
 use Rattle.frame_requests.specs.declared.fault.RunFault.{RunFault}
 use Rattle.frame_requests.specs.declared.fault.RunFault.TheVariants.{Output}
 use Rattle.std.proofs.Common.{Err}
 use Rattle.frame_formats.specs.declared.plans.PlanFault.TheVariants.{Memory as NoMemory}
+use Rattle.frame_runs.proofs.Failing.{frames_failed, unplanned_fails}
 use Rattle.frame_runs.proofs.Outcomes.{at_ok, at_err}
 use Rattle.frame_runs.proofs.Carrying.{begun_line, no_format, not_planned, frames_written}
 use Rattle.frame_runs.proofs.Starts.{line_read, plan_stops, video_starts}
@@ -57,6 +59,23 @@ returns-then-is_err-clause-follows g c = line_begun g (goal.at.returns-then-is_e
 
 pub returns-clause-follows : goal.returns-clause-follows
 returns-clause-follows g c = frames_follow g (goal.at.returns-clause-follows g c).After-pass_frames
+
+-- ---- the reader failed
+
+pub returns-in-Err-clause-fails : goal.returns-in-Err-clause-fails
+returns-in-Err-clause-fails g c input read = subst (λ (e : RunFault). InputFails (Err e) (edits_of c.args.request) input (g.R.Read.remaining (device_of c.args.reader.now)) (g.W.Write.contents (device_of c.args.writer.now)) (g.W.Write.contents (device_of c.args.writer.now))) (sym c.fault_of_plan.ensures)
+    (unplanned_fails c.in-Err.fault (edits_of c.args.request) input (g.R.Read.remaining (device_of c.args.reader.now)) (g.W.Write.contents (device_of c.args.writer.now)) (g.W.Write.contents (device_of c.args.writer.now)))
+
+pub returns-in-Err-make_buffers-clause-fails : goal.returns-in-Err-make_buffers-clause-fails
+returns-in-Err-make_buffers-clause-fails g c input read = subst (λ (e : RunFault). InputFails (Err e) (edits_of c.args.request) input (g.R.Read.remaining (device_of c.args.reader.now)) (g.W.Write.contents (device_of c.args.writer.now)) (g.W.Write.contents (device_of c.args.writer.now))) (sym c.in-Err-make_buffers.ensures.memory) tt
+
+pub returns-clause-fails : goal.returns-clause-fails
+returns-clause-fails g c =
+    let old = g.W.Write.contents (device_of c.args.writer.now) in
+    let held = g.W.Write.contents (device_of c.write_all.new.writer) in
+    let wrote : Appends old held c.head.result.now = at_ok c.write_all.result (sym c.is_err.ensures.value ∙ c.if-is_err.false) c.write_all.ensures.whole in
+    frames_failed (edits_of c.args.request) c.args.line.now (recipe_of c.in-Ok.plan) (c.requires.one_line, c.requires.short, c.in-Ok.ensures.plan) c.requires.kind (g.R.Read.remaining (device_of c.args.reader.now)) old held (subst (Appends old held) c.head.ensures wrote) c.pass_frames.result (g.R.Read.remaining (device_of c.pass_frames.new.reader))
+    (g.W.Write.contents (device_of c.pass_frames.new.writer)) c.pass_frames.ensures.fails
 
 -- ---- the buffers are within the limit
 
