@@ -57,7 +57,7 @@ OTHERS = [
     ("docs/HIDE.md", "imgref-hide videos", "built/hide_many.py"),
     ("docs/HIDE.md", "find in", "built/hide_many.py"),
     ("docs/HIDE.md", "python3 examples/dask_tiles.py", "built/hide_many.py"),
-    ("docs/PERF.md", "cd ", "nothing: it proves an old commit, for 25 minutes"),
+    ("docs/maintainers/PERF.md", "cd ", "nothing: it proves an old commit, for 25 minutes"),
     ("docs/PYTHON.md", "python3 -m venv", "built/release.py: the wheel"),
     ("docs/PYTHON.md", "make python", "proofs/bindings.py"),
     ("docs/RELEASE.md", "make test ", "built/release.py"),

@@ -24,7 +24,7 @@ from workspace import with_those_below
 PAGES = {
     "docs/PERFORMANCE.md": ("bench_exports", "imgref_c", "imgref_run", "imgref_frames"),
     "bench/tables.md": ("bench_exports", "imgref_c"),
-    "docs/PERF.md": ("bench_jobs", "bench_pixels"),
+    "docs/maintainers/PERF.md": ("bench_jobs", "bench_pixels"),
     "docs/C.md": ("imgref_c",),
 }
 NAMED = re.compile(r"[Mm]easured on commit `([0-9a-f]{7,40})`")

@@ -15,7 +15,7 @@ import sys
 sys.path.insert(0, str(pathlib.Path(__file__).resolve().parent.parent))
 from checking import ROOT, Cases
 
-PAGES = ("*.md", "docs/*.md", "bench/*.md", "bindings/*/README.md")
+PAGES = ("*.md", "docs/**/*.md", "bench/*.md", "bindings/*/README.md")
 FENCED = re.compile(r"(?ms)^```.*?^```$")
 INDENTED = re.compile(r"(?m)^    .*$")
 SPAN = re.compile(r"``.+?``|`[^`\n]+`")

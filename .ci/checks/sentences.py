@@ -51,7 +51,7 @@ LIMITS = {
     "docs/FRAMES.md": 3170,
     "docs/GLOSSARY.md": 1430,
     "docs/HIDE.md": 1000,
-    "docs/PERF.md": 1450,
+    "docs/maintainers/PERF.md": 1450,
     "docs/PERFORMANCE.md": 1600,
     "docs/PROMISES.md": 2740,
     "docs/PYTHON.md": 1880,
@@ -231,7 +231,7 @@ def named(path):
 
 def documents():
     """The pages that people write."""
-    found = [it for pattern in ("*.md", "docs/*.md", "bindings/*/README.md") for it in sorted(ROOT.glob(pattern))]
+    found = [it for pattern in ("*.md", "docs/**/*.md", "bindings/*/README.md") for it in sorted(ROOT.glob(pattern))]
     return [it for it in found if it.name not in WRITTEN]
 
 

@@ -19,7 +19,7 @@ from checking import Cases, built
 SIDES = {1: 500, 2: 500, 3: 250, 4: 300, 8: 200, 16: 125}
 STRIDES, FRIENDLY = (1365, 2048, 4032, 4088, 4092, 4096, 4097, 4100, 4104, 8192), 4160
 # What is done, and the most misses beside those at the friendly stride, for pixels of so many bytes. Where a program's memory
-# lies changes a count by a few per cent, so a limit is that much above what was counted. docs/PERF.md says why those of bytes and pixels of two in place are so high.
+# lies changes a count by a few per cent, so a limit is that much above what was counted. docs/maintainers/PERF.md says why those of bytes and pixels of two in place are so high.
 LIMITS = {
     "right": {1: 1.4, 2: 1.55, 3: 1.45, 4: 1.45, 8: 1.35, 16: 1.35},
     "left": {1: 1.35, 2: 1.55, 3: 1.45, 4: 1.5, 8: 1.35, 16: 1.4},

@@ -173,7 +173,7 @@ def main(words):
         cases.count(f"{name}: its names are in the sources", not missing, f"in no source: {missing}")
     missing = list(undefined((ROOT / "docs/GLOSSARY.md").read_text()))
     cases.count("docs/GLOSSARY.md: its definitions", not missing, f"not there: {', '.join(missing)}")
-    for path in [ROOT / "README.md", ROOT / "CONTRIBUTING.md", ROOT / "CHANGELOG.md", *sorted((ROOT / "docs").glob("*.md"))]:
+    for path in [ROOT / "README.md", ROOT / "CONTRIBUTING.md", ROOT / "CHANGELOG.md", *sorted((ROOT / "docs").rglob("*.md"))]:
         missing = list(missing_files(path))
         cases.count(f"{path.relative_to(ROOT)}: the files it names", not missing, f"not there: {', '.join(missing)}")
     files = [it for end in ("src/**/*.rt", "proofs/**/*.antt") for it in (ROOT / "crates").glob(f"*/{end}")]
