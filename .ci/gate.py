@@ -60,7 +60,7 @@ GOES_OVER = {
     "row_mover_privacy.py": ("row_mover",),
     "retried_calls.py": ("imgref_run",),
     "second_build.py": ("imgref_run", "imgref_frames"),
-    "strides.py": ("bench_pixels",),
+    "strides.py": ("bench_strides",),
 }
 # Those of a group go one after the other: each takes all processors by itself, or builds what the one before built.
 IN_TURN = (("hide.py", "hide_phones.py", "hide_many.py"), ("c_library.py", "bindings.py"))

@@ -1,8 +1,7 @@
 //! What the words ask for, and why a job ends early.
 
 use std::alloc::{AllocError, AllocFailed};
-use std::env::Args;
-use std::io;
+use std::env;
 
 /// A job.
 #[derive(Clone, Copy, PartialEq, Eq)]
@@ -40,11 +39,6 @@ pub(crate) struct Request {
 }
 
 impl Request {
-    /// Whether all are asked for.
-    pub(crate) fn is_for_all(&self) -> bool {
-        self.job.is_none()
-    }
-
     /// Whether a job is asked for.
     pub(crate) fn includes(&self, job: Job) -> bool {
         match self.job {
@@ -57,14 +51,12 @@ impl Request {
 /// Why a job ends early.
 #[derive(Clone, Copy)]
 pub(crate) enum Fault {
-    /// The words ask for nothing that is known.
+    /// The words ask for no job.
     Words,
     /// Out of memory.
     Memory,
     /// What was made isn't what the job needs.
     Input,
-    /// The words, the clock or the output failed.
-    Device,
 }
 
 impl From<AllocError> for Fault {
@@ -76,12 +68,6 @@ impl From<AllocError> for Fault {
 impl<T: Drop> From<AllocFailed<T>> for Fault {
     fn from(_e: AllocFailed<T>) -> Fault {
         Fault::Memory
-    }
-}
-
-impl From<io::Error> for Fault {
-    fn from(_e: io::Error) -> Fault {
-        Fault::Device
     }
 }
 
@@ -107,13 +93,21 @@ fn read_size(word: &str) -> Result<Size, Fault> {
     }
 }
 
-/// Reads the name of a job, and the words after it.
-pub(crate) fn read_request(job: &str, mut words: Args) -> Result<Request, Fault> {
-    let (Some(size), Some(seed)) = (words.next(), words.next()) else {
+/// Reads the words of the command line.
+pub(crate) fn read_request(rt: &HostRuntime) -> Result<Request, Fault> {
+    let Ok(mut words) = env::args(rt) else {
+        return Err(Fault::Words);
+    };
+    let (Some(_), Some(job), Some(size), Some(seed)) = (
+        words.next(),
+        words.next(),
+        words.next(),
+        words.next(),
+    ) else {
         return Err(Fault::Words);
     };
     Ok(Request {
-        job: read_job(job)?,
+        job: read_job(&job)?,
         size: read_size(&size)?,
         seed: seed.parse().ok().ok_or(Fault::Words)?,
     })

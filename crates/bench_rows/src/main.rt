@@ -1,19 +1,47 @@
 //! Times one call on images of few columns. `bench/widths` compares the times of two builds.
 //!
-//! The words after `widths` are a call, the bytes of a pixel, the number of rows, and the first and
-//! the last number of columns. Then come how many calls are timed at once, and how often. A line is
-//! printed for each width and padding: the call, the bytes, the columns and the padding in pixels.
-//! The last word is the least time of a call in picoseconds.
+//! Its words are a call, the bytes of a pixel, the number of rows, and the first and the last number
+//! of columns. Then come how many calls are timed at once, and how often. It prints a line for each
+//! width and padding: the call, the bytes, the columns and the padding in pixels. The last word is
+//! the least time of a call in picoseconds.
+#![tactic(auto)]
 
 ghost use Rattle.std.specs.Prelude.{◌≡◌};
 
-use crate::request::Fault;
 use image_moves::{join_rows, move_pixels};
 use image_ops::{are_equal, copy_pixels, fill_pixels, joined_clones};
 use image_shape::{Shape, Window};
-use std::alloc::Global;
-use std::env::Args;
+use std::alloc::{AllocError, AllocFailed, Global};
+use std::process::ExitCode;
 use std::time::Instant;
+use std::{env, io};
+
+// Why nothing was timed.
+#[derive(Drop)]
+enum Fault {
+    Help,
+    Words,
+    Memory,
+    Device,
+}
+
+impl From<AllocError> for Fault {
+    fn from(_e: AllocError) -> Fault {
+        Fault::Memory
+    }
+}
+
+impl From<AllocFailed<()>> for Fault {
+    fn from(_e: AllocFailed<()>) -> Fault {
+        Fault::Memory
+    }
+}
+
+impl From<io::Error> for Fault {
+    fn from(_e: io::Error) -> Fault {
+        Fault::Device
+    }
+}
 
 // A call that is timed.
 #[derive(Clone, Copy)]
@@ -49,12 +77,17 @@ fn read_call(word: &str) -> Result<Call, Fault> {
         "equal" => Ok(Call::Equal),
         "pack" => Ok(Call::Pack),
         "clones" => Ok(Call::Clones),
+        "--help" => Err(Fault::Help),
         _ => Err(Fault::Words),
     }
 }
 
-fn read_words(mut words: Args) -> Result<Words, Fault> {
-    let Some(name) = words.next() else {
+// The words after the name of the program.
+fn read_words(rt: &HostRuntime) -> Result<Words, Fault> {
+    let Ok(mut words) = env::args(rt) else {
+        return Err(Fault::Words);
+    };
+    let (Some(_), Some(name)) = (words.next(), words.next()) else {
         return Err(Fault::Words);
     };
     let call = read_call(&name)?;
@@ -211,9 +244,8 @@ fn time_each<T: Copy + PartialEq>(rt: &HostRuntime, words: &Words, pixel: T) -> 
     Ok(())
 }
 
-/// Times the call that the words name.
-pub(crate) fn run(rt: &HostRuntime, words: Args) -> Result<(), Fault> {
-    let words = read_words(words)?;
+fn run(rt: &HostRuntime) -> Result<(), Fault> {
+    let words = read_words(rt)?;
     match words.pixel {
         1 => time_each(rt, &words, 0u8),
         2 => time_each(rt, &words, 0u16),
@@ -225,23 +257,22 @@ pub(crate) fn run(rt: &HostRuntime, words: Args) -> Result<(), Fault> {
     }
 }
 
-/// Makes each call once on a small image, with padding and without any.
-pub(crate) fn try_each(alloc: Global) -> Result<(), Fault> {
-    for call in [
-        Call::Fill,
-        Call::Copy,
-        Call::Right,
-        Call::Down,
-        Call::Equal,
-        Call::Pack,
-        Call::Clones,
-    ] {
-        for padding in [0, 8] {
-            let mut pair = Pair::new(alloc, 7u8, 5, 4, padding)?;
-            if !pair.act(alloc, call, 7u8)? {
-                return Err(Fault::Input);
-            }
+fn main(rt: HostRuntime) -> ExitCode {
+    let words = "words: call, bytes, rows, columns from and to, calls, rounds";
+    let printed = match run(&rt) {
+        Ok(()) => return ExitCode::SUCCESS,
+        Err(Fault::Help) => {
+            return match println!(rt; "{words}") {
+                Ok(()) => ExitCode::SUCCESS,
+                Err(_) => ExitCode::FAILURE,
+            };
         }
+        Err(Fault::Words) => println!(rt; "{words}"),
+        Err(Fault::Memory) => println!(rt; "out of memory"),
+        Err(Fault::Device) => println!(rt; "the clock or the output failed"),
+    };
+    match printed {
+        Ok(()) => ExitCode::FAILURE,
+        Err(_) => ExitCode::FAILURE,
     }
-    Ok(())
 }
