@@ -3,7 +3,7 @@
     beside.py [SIDE ..]    sides of the square images (64, 512, 2048 and 4088)
 
 Prints a line for each call, size of a pixel and side: the nanoseconds a pixel here, and this time divided by that of the faster
-one of the other two. The three are timed by turns, and the least time of each counts. What they leave is compared first.
+one of the other two. The three are timed alternately, and the least time of each counts. What they leave is compared first.
 """
 import sys
 import timeit
@@ -19,7 +19,7 @@ PIXELS = {1: (1, numpy.uint8), 2: (1, numpy.uint16), 3: (3, numpy.uint8), 4: (4,
 TILES, MEANS = (2, 8, 31), "means of "
 # How many pixels a blur takes on each side. It cuts boxes at the edge, and OpenCV doesn't.
 RADII, BLURS = (2, 8), "blur of radius "
-# How often the three are timed by turns (large pictures not so often), and how many pixels they go over each time at least.
+# How often the three are timed alternately (large pictures not so often), and how many pixels they go over each time at least.
 TURNS, FEW_TURNS, AT_ONCE = 15, 5, 2_000_000
 
 

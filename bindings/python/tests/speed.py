@@ -24,7 +24,7 @@ def least(call, most):
     return taken
 
 
-# The calls of both are timed by turns, until the package's least time is at most NumPy's. A busy
+# The calls of both are timed alternately, until the package's least time is at most NumPy's. A busy
 # machine may slow one of them down: only more than twice NumPy's least time is a failure.
 TURNS, FACTOR = 60, 2
 

@@ -1,4 +1,4 @@
-//! Summed areas.
+//! Integral images.
 
 ghost use Rattle.std.specs.Prelude.{◌≡◌, ◌↔◌, ◌<◌, ◌+◌, ◌-◌, ◌*◌, ◌^◌, ◌==◌, if◌then◌else◌, IfOk, IsOk, IsTrue};
 ghost use Rattle.image_model.specs.Compaction.{least_stride};
@@ -58,8 +58,8 @@ fn sum_areas(image: ImgRef<'_, u8>, cells: &mut [u64], shape: Shape)
     }
 }
 
-/// Writes the summed areas of an image to cells in a shape of its size. Each pixel becomes the sum
-/// of the image's pixels up to its column in the rows up to its own; the padding stays. (OpenCV's
+/// Writes the integral image to cells in a shape of its size. Each pixel becomes the sum of the
+/// image's pixels up to its column in the rows up to its own; the padding stays. (OpenCV's
 /// `integral` has a row and a column of zeros before these.)
 ///
 /// # Requires
@@ -80,8 +80,8 @@ pub fn integral_into(image: ImgRef<'_, u8>, cells: &mut [u64], shape: Shape)
     sum_areas(image, cells, shape);
 }
 
-/// The summed areas of an image in an image of its own, as `integral_into` writes them. There is no
-/// padding: the stride is the width, or 1 for width 0.
+/// The integral image in an image of its own, as `integral_into` writes it. There is no padding: the
+/// stride is the width, or 1 for width 0.
 ///
 /// # Requires
 ///

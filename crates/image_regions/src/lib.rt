@@ -1,4 +1,4 @@
-//! Values, sums and regions of images: histograms, equalization, summed areas, flood fills, and
+//! Values, sums and regions of images: histograms, equalization, integral images, flood fills, and
 //! labels of connected regions with their boxes and their sizes. Each call takes time in proportion
 //! to the pixels. Memory is allocated by the calls that take `alloc`, and where there is none they
 //! return `AllocError`.

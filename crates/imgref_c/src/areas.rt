@@ -1,4 +1,4 @@
-//! Summed areas.
+//! Integral images.
 
 ghost use Rattle.std.specs.Prelude.{◌≡◌, length};
 ghost use Rattle.imgref_c.specs.Words.{area_at, code, grid_of, integral_status, layout, table, Writes};

@@ -1,4 +1,4 @@
-//! What one of the summed areas says.
+//! What a pixel of an integral image says.
 
 ghost use Rattle.std.specs.Prelude.{◌≡◌, ◌<◌, ◌+◌, ◌*◌, ◌^◌, IfOk};
 ghost use Rattle.imgref.specs.Words.{Fits, area_sum, height_of, ref_grid, ref_layout, width_of};

@@ -68,7 +68,7 @@ fn write_rows(text: &mut String, image: ImgRef<'_, u8>) -> Result<(), AllocError
     Ok(())
 }
 
-// The rows are filled by turns from both ends, with a value of its own each.
+// The rows are filled from both ends alternately, with a value of its own each.
 fn fill_rows(image: &mut ImgVec<u8>)
     requires { Fits (vec_layout image.old) }
 {
