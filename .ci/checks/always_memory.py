@@ -67,14 +67,16 @@ FILES = {
 }
 
 
-def kept_tests(crate):
-    """The lists of a crate's files of tests without those that none of the cases needs, where it has many."""
-    files, found = FILES.get(crate, ()), {}
-    for listing in {"tests", *(f"tests/{it}".rpartition("/")[0] for it in files)} if files else ():
-        is_kept = lambda it, at=listing: any(f"tests/{name}/".startswith(f"{at}/{it[1]}/") for name in files)
-        path = f"{crate}/src/{listing}.rt"
-        found[path] = re.sub(r"(?m)^mod (\w+);\n", lambda it: it[0] if is_kept(it) else "", (ROOT / "crates" / path).read_text())
-    return found
+def keep_tests(crate, files):
+    """Leaves all but these files of tests out of a crate, and those whose folders have them."""
+    tests = crate / "src/tests"
+    for path in [*tests.rglob("*.rt")]:
+        name = path.relative_to(tests).with_suffix("").as_posix()
+        if not any(it == name or it.startswith(f"{name}/") for it in files):
+            path.unlink()
+            listed = path.parent.with_suffix(".rt")
+            if listed.exists():
+                listed.write_text(listed.read_text().replace(f"mod {path.stem};\n", ""))
 
 
 def with_heads(crate, file, heads):
@@ -88,7 +90,9 @@ def with_heads(crate, file, heads):
 
 def tests_of(crate, texts):
     """How many tests of a crate pass and fail with these texts in the place of files, or nothing where they are not run."""
-    with room(crate, kept_tests(crate) | texts) as made:
+    with room(crate, texts) as made:
+        if crate in FILES:
+            keep_tests(made, FILES[crate])
         said = subprocess.run(["rt", "try", "--test", "--seconds", "600"], cwd=made, stdin=subprocess.DEVNULL, stdout=subprocess.PIPE, stderr=subprocess.STDOUT, text=True).stdout
     found = re.search(r"^test result: .* (\d+) passed; (\d+) failed", said, re.M)
     return tuple(map(int, found.groups())) if found else None
