@@ -97,7 +97,7 @@ def writes(program, name):
 
 def main():
     cases, names = Cases(), [*crates()]
-    after = [After(it, weight(it, with_tests=True), lambda it=it: test(cases, it)) for it in names if says(it, "#[test]")]
+    after = [After(it, weight(it), lambda it=it: test(cases, it)) for it in names if says(it, "#[test]")]
     after += [After(it, weight(it) / 2, lambda it=it: second(cases, it)) for it in names if is_program(it)]
     after += [After(it, weight(it) / 5, lambda it=it: ask(cases, it)) for it in since_landing().crates]
     progress = Progress(*weights_of(all_below(names)))

@@ -15,8 +15,6 @@ from workspace import crates, is_fresh, is_program, keep, own_sources, product, 
 
 # What the prover says of how far it is in a crate.
 SO_FAR = re.compile(r"so far: (\d+) of (\d+) functions checked")
-# The files of tests, which are proved apart from the crate.
-OF_TESTS = re.compile(r"/src/(?:.*_)?tests(?:/.*)?\.rt$|/proofs/tests/")
 # A crate of this weight gains by jobs, also while others are proved: a proof keeps the jobs that it began with.
 LARGE, MOST_JOBS = 30, 4
 # By how much a crate's own proofs are faster by so many jobs, and what a job reads of a crate below, of the seconds of its proofs.
@@ -41,11 +39,12 @@ class Work:
         return self.own + jobs * self.loads
 
 
-def weight(name, with_tests=False):
-    """What a crate's own proofs take, or those of the crate with its tests, roughly in seconds of one processor: they go by lines."""
-    files = [it for it in own_sources(name) if with_tests or not OF_TESTS.search(it.as_posix())]
+def weight(name):
+    """What a crate's own proofs take, roughly in seconds of one processor: they go by lines."""
+    files = [*own_sources(name)]
     count = lambda end: sum(it.read_bytes().count(b"\n") for it in files if it.name.endswith(end))
-    return 8 + count(".rt") / 10 + count(".antt") / 50
+    code = count(".rt") - count("tests.rt")
+    return 8 + code / 10 + count(".antt") / 50
 
 
 # A share that the weights don't move grows so many times more slowly than one that they do.

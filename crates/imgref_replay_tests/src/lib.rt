@@ -1,5 +1,5 @@
-//! The tests of `imgref_replay`, what a script can't express, and of `part_callers`. They are in a
-//! crate of their own, since a crate with tests is proved twice.
+//! The tests of `imgref_replay`: what a script can't express. They are in a crate of their own,
+//! since a crate with tests is proved twice.
 #![tactic(auto)]
 
 #[cfg(test)]

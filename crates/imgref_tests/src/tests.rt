@@ -1,4 +1,4 @@
-//! One file for each subject. The examples, hostile use and tiles have folders.
+//! One file for each subject.
 
 mod blurs;
 mod changes;
