@@ -26,11 +26,11 @@ HANDED_BACK = "if true { return Err(self); }"
 
 # The crate, the file and the function, what is put at its head, and the crate whose tests are run.
 CASES = [
-    ("imgref", "contiguous", "to_contiguous_buf", NO_ROOM, "imgref_tests"),
-    ("imgref", "copies", "to_owned", NO_ROOM, "imgref_tests"),
-    ("imgref", "copies", "clone", NO_ROOM, "imgref_tests"),
-    ("imgref", "cow", "into_owned", HANDED_BACK, "imgref_tests"),
-    ("imgref", "cow", "into_vec", HANDED_BACK, "imgref_tests"),
+    ("imgref", "contiguous", "to_contiguous_buf", NO_ROOM, "imgref_hostile_tests"),
+    ("imgref", "copies", "to_owned", NO_ROOM, "imgref_hostile_tests"),
+    ("imgref", "copies", "clone", NO_ROOM, "imgref_hostile_tests"),
+    ("imgref", "cow", "into_owned", HANDED_BACK, "imgref_hostile_tests"),
+    ("imgref", "cow", "into_vec", HANDED_BACK, "imgref_hostile_tests"),
     ("imgref", "by_place", "from_places", NO_ROOM, "imgref_tests"),
     ("image_regions", "areas", "integral", NO_ROOM, "imgref_tests"),
     ("image_regions", "counting", "histogram_u16", NO_ROOM, "imgref_tests"),
@@ -62,7 +62,8 @@ RUNS = [
 ]
 # The files that are kept of a crate with many tests.
 FILES = {
-    "imgref_tests": ("examples/figures", "hostile/contiguous", "hostile/copies", "hostile/fixtures", "regions"),
+    "imgref_tests": ("examples/figures", "regions"),
+    "imgref_hostile_tests": ("contiguous", "copies", "fixtures"),
     "imgref_replay_tests": ("commands", "fixtures"),
 }
 

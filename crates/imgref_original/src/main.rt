@@ -1,7 +1,7 @@
-//! The port on the cases on which the Rust crate `imgref` 1.12.3 was run. The module `answers` has
-//! what that crate returned, and the port must return the same.
+//! Runs the port on the cases on which the Rust crate `imgref` 1.12.3 was run. `stdout` in this
+//! folder has the results of the crate, and this program must print the same.
 //!
-//! `original/answers.rs` of this crate printed it. It was built over the crate's own sources (feature
+//! `original/answers.rs` wrote them. It was built over the crate's own sources (feature
 //! `deprecated`) with rustc 1.95, with and without debug assertions, which gave the same lines. To
 //! make them again, make a new cargo project over the crate with that file as its `src/main.rs`,
 //! and use `cargo run`.
@@ -11,18 +11,16 @@
 //! Then come the first cell and the length of its buffer. Four calls give these: `sub_image`,
 //! `sub_image_mut` of an owner and of a borrowed image, and `into_sub_image_mut`. Last come its
 //! pixels. An image or a window that isn't valid has no line.
+#![tactic(auto)]
 
 ghost use Rattle.image_model.specs.Layout.{Fits};
 ghost use Rattle.imgref.specs.Image.{ref_layout, vec_layout};
 
-mod answers;
-
-use answers::ANSWERS;
 use imgref::{Img, ImgRef, ImgVec};
 use imgref_fixtures::{PADDED, next_from};
 use std::alloc::{AllocError, Global};
 use std::fmt::Write;
-use std::test::Fail;
+use std::process::ExitCode;
 
 fn write_cells(text: &mut String, cells: &[u8]) -> Result<(), AllocError> {
     for cell in cells {
@@ -254,10 +252,13 @@ fn write_answers(alloc: Global, text: &mut String) -> Result<(), AllocError> {
     writeln!(text)
 }
 
-#[test]
-fn the_port_returns_what_the_original_returned(rt: HostRuntime) -> Result<(), Fail> {
+/// Prints the results of the port.
+fn main(rt: HostRuntime) -> ExitCode {
     let mut text = String::new(rt.alloc());
-    write_answers(rt.alloc(), &mut text)?;
-    assert!(rt; text.as_str() == ANSWERS);
-    Ok(())
+    let is_written = write_answers(rt.alloc(), &mut text).is_ok();
+    if is_written && print!(rt; "{text}").is_ok() {
+        ExitCode::SUCCESS
+    } else {
+        ExitCode::FAILURE
+    }
 }

@@ -1,6 +1,0 @@
-//! Tiles and bands of `image_tiles`.
-
-mod bands;
-mod fixtures;
-mod lent_tiles;
-mod tilings;
