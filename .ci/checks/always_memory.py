@@ -31,12 +31,12 @@ CASES = [
     ("imgref", "copies", "clone", NO_ROOM, "imgref_hostile_tests"),
     ("imgref", "cow", "into_owned", HANDED_BACK, "imgref_hostile_tests"),
     ("imgref", "cow", "into_vec", HANDED_BACK, "imgref_hostile_tests"),
-    ("imgref", "by_place", "from_places", NO_ROOM, "imgref_tests"),
-    ("image_regions", "areas", "integral", NO_ROOM, "imgref_tests"),
-    ("image_regions", "counting", "histogram_u16", NO_ROOM, "imgref_tests"),
-    ("image_regions", "entries", "map_by", NO_ROOM, "imgref_tests"),
-    ("image_regions", "floods", "flood_fill", NO_ROOM, "imgref_tests"),
-    ("image_regions", "labels", "components", NO_ROOM, "imgref_tests"),
+    ("imgref", "by_place", "from_places", NO_ROOM, "imgref_examples"),
+    ("image_regions", "areas", "integral", NO_ROOM, "image_regions"),
+    ("image_regions", "counting", "histogram_u16", NO_ROOM, "image_regions"),
+    ("image_regions", "entries", "map_by", NO_ROOM, "image_regions"),
+    ("image_regions", "floods", "flood_fill", NO_ROOM, "image_regions"),
+    ("image_regions", "labels", "components", NO_ROOM, "image_regions"),
     ("imgref_replay", "run", "replay", NO_ROOM, "imgref_replay_tests"),
     ("script_text", "script", "next", "if true { return Err(ScriptFault::Memory); }", "imgref_run"),
     ("script_text", "output", "push_reply", NO_MORE_ROOM, "imgref_run"),
@@ -61,23 +61,16 @@ RUNS = [
     ("frame_runs", "program", "run", "if true { return Err(RunFault::Memory(0)); }", VIDEO, FILL),
 ]
 # The files that are kept of a crate with many tests.
-FILES = {
-    "imgref_tests": ("examples/figures", "regions"),
-    "imgref_hostile_tests": ("contiguous", "copies", "fixtures"),
-    "imgref_replay_tests": ("commands", "fixtures"),
-}
+FILES = {"imgref_hostile_tests": ("contiguous", "copies", "fixtures"), "imgref_replay_tests": ("commands", "fixtures")}
 
 
 def keep_tests(crate, files):
-    """Leaves all but these files of tests out of a crate, and those whose folders have them."""
-    tests = crate / "src/tests"
-    for path in [*tests.rglob("*.rt")]:
-        name = path.relative_to(tests).with_suffix("").as_posix()
-        if not any(it == name or it.startswith(f"{name}/") for it in files):
-            path.unlink()
-            listed = path.parent.with_suffix(".rt")
-            if listed.exists():
-                listed.write_text(listed.read_text().replace(f"mod {path.stem};\n", ""))
+    """Leaves all but these files of tests out of a crate."""
+    listed = crate / "src/tests.rt"
+    for name in re.findall(r"^mod (\w+);$", listed.read_text(), re.M):
+        if name not in files:
+            listed.write_text(listed.read_text().replace(f"mod {name};\n", ""))
+            (crate / f"src/tests/{name}.rt").unlink()
 
 
 def with_heads(crate, file, heads):

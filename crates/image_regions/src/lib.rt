@@ -15,6 +15,8 @@ mod equalizing;
 mod floods;
 mod labels;
 mod pixels;
+#[cfg(test)]
+mod tests;
 
 pub use areas::{integral, integral_into, sums_fit};
 pub use boxes::{area, bounding_box};

@@ -17,6 +17,10 @@ mod conditions;
 mod counts;
 mod crop;
 mod drawing;
+#[cfg(test)]
+mod figures;
+#[cfg(test)]
+mod fills;
 mod first_window;
 mod gauss;
 mod halves;
@@ -28,6 +32,8 @@ mod literals;
 mod luma;
 mod masks;
 mod nested;
+#[cfg(test)]
+mod outcomes;
 mod overwritten;
 mod paste;
 mod pixels;
@@ -38,6 +44,8 @@ mod scaling;
 mod scenes;
 mod spread;
 mod sums;
+#[cfg(test)]
+mod tests;
 mod thinning;
 mod tiles;
 mod upside_down;

@@ -4,5 +4,4 @@ mod commands;
 mod fixtures;
 mod layouts;
 mod nested;
-mod parts;
 mod paths;

@@ -1,5 +1,6 @@
-//! The tests of `imgref`, of libraries below and above it, and of the examples. They are in a crate
-//! of their own, since a crate with tests is proved twice.
+//! The tests of what `imgref` shows and writes pixel by pixel: images, places, rows, pixels,
+//! windows and equality. They are in a crate of their own, since a crate with tests is proved
+//! twice.
 #![tactic(auto)]
 
 #[cfg(test)]

@@ -1,10 +1,8 @@
 //! One file for each subject.
 
-mod blurs;
 mod changes;
 mod counts;
 mod equality;
-mod examples;
 mod images;
 mod keys;
 mod means;
@@ -13,8 +11,6 @@ mod padded;
 mod pixel_writes;
 mod pixels;
 mod places;
-mod regions;
-mod row_moves;
 mod row_widths;
 mod row_writes;
 mod rows;

@@ -6,6 +6,8 @@ mod bands;
 mod fills;
 mod mosaics;
 mod paths;
+#[cfg(test)]
+mod tests;
 mod tiles;
 
 pub use bands::fill_first_band;

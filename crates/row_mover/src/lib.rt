@@ -8,5 +8,7 @@
 mod blocks;
 mod mover;
 mod moves;
+#[cfg(test)]
+mod tests;
 
 pub use mover::RowMover;

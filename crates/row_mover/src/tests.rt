@@ -1,6 +1,4 @@
-//! Rows that a `RowMover` shifts, joins and moves in one list.
-
-use row_mover::RowMover;
+use crate::RowMover;
 use std::process::Abort;
 
 /// A picture of 3 by 3 pixels at stride 4: rows 1 2 3, 4 5 6 and 7 8 9, with padding 0.

@@ -2,12 +2,12 @@
 
 ghost use Rattle.imgref.specs.Words.{Fits, vec_layout};
 
-use imgref::{Img, ImgRef, ImgVec, Window};
-use imgref_examples::{
+use crate::{
     brighten_rows, checksum, checksum_by_rows, crop_packed, darken_lent_tiles, darken_tiles,
     draw_border, exact_checksum, flip, greatest_in, invert, invert_lent, invert_owner, paste_at,
     paste_sprite, put_above_fill, threshold,
 };
+use imgref::{Img, ImgRef, ImgVec, Window};
 use std::alloc::{AllocError, Global};
 use std::test::Fail;
 

@@ -1,7 +1,7 @@
 //! What scaled images and sprites with masks leave, by values worked out by hand.
 
+use crate::{blend_masked, half_ramp, resize_nearest};
 use imgref::{Img, ImgRefMut, ImgVec};
-use imgref_examples::{blend_masked, half_ramp, resize_nearest};
 use std::test::Fail;
 
 // Two by two, with a cell of padding after the first row.

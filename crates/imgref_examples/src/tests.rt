@@ -3,13 +3,13 @@
 ghost use Rattle.std.specs.Prelude.{◌≡◌, IfOk};
 ghost use Rattle.imgref.specs.Image.{width_of, height_of};
 
-use imgref::{Img, ImgVec, Window};
-use imgref_examples::{
+use crate::{
     FrameError, box_blur_3x3, brighten, brighten_copy, brighten_places, brighten_rows, crop_copy,
     dot, draw_any, draw_lent, draw_rect, flip_any, luma_plane, pixel_of_any, pixel_of_ref,
     pixel_of_vec, put_and_read, put_then_get, stripes, three_by_index, three_places,
     write_through_window,
 };
+use imgref::{Img, ImgVec, Window};
 use std::alloc::{AllocError, Global};
 use std::test::Fail;
 

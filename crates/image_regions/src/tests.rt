@@ -1,6 +1,6 @@
-//! Each call of `image_regions` once, with values that were worked out by hand.
+//! Each call once, with values that were worked out by hand.
 
-use image_regions::{
+use crate::{
     area, bounding_box, components, equalize, flood_fill, histogram, histogram_u16, integral,
     map_by, sums_fit,
 };

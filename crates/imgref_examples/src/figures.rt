@@ -2,13 +2,13 @@
 
 ghost use Rattle.imgref.specs.Words.{Fits, vec_layout};
 
-use image_regions::sums_fit;
-use imgref::{Img, ImgRef, ImgVec, Window};
-use imgref_examples::{
+use crate::{
     are_connected, blend, bounding_box, count_above, equalize, exchange_and_mirror, fill_disc,
     gaussian_3x3, halve, histogram, integral, ramp, sum_up_to, thin, turn_into_window, turn_lent,
     turn_right, window_sum,
 };
+use image_regions::sums_fit;
+use imgref::{Img, ImgRef, ImgVec, Window};
 use std::alloc::{AllocError, Global};
 use std::test::Fail;
 
