@@ -1,0 +1,4 @@
+//! One file for each subject.
+
+mod means;
+mod moves;
