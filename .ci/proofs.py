@@ -34,8 +34,6 @@ WARNED = re.compile(
 )
 # A program may run so many seconds.
 SECONDS = 120
-# Tests of this weight get a second job, since they come last.
-LONG_TESTS = 300
 
 
 def lines_of(command, at):
@@ -60,8 +58,7 @@ def test(cases, name):
         cases.count(f"== {name}: its tests", True)
         return
     with room(name) as made:
-        jobs = 2 if weight(name, with_tests=True) > LONG_TESTS else 1
-        lines, status = lines_of(["rt", "test", "--jobs", str(jobs)], made)
+        lines, status = lines_of(["rt", "test", "--jobs", "1"], made)
         program = made / "out" / f"{name}_tests"
         is_well = not status and program.is_file()
         if is_well:
