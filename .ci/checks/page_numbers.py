@@ -58,7 +58,7 @@ def with_contracts():
     return sum(bool(it.clauses) for text in sources() for it, _ in functions.functions(text))
 
 
-ALL = [*ROOT.glob("*.md"), *(it for it in (ROOT / "docs").rglob("*.md") if it.name not in sentences.WRITTEN), *(ROOT / "bindings/python").glob("*.md")]
+ALL = sentences.documents()
 FRAMES, SPANS = "crates/frame_runs/src", "crates/image_planes/src/spans.rt"
 WINDOWS, NESTED = "crates/imgref_hostile_tests/src/tests/windows.rt", "crates/imgref_replay_tests/src/tests/nested.rt"
 # The pages (all, where none is named), how a page says a number, and the number.
