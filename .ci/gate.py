@@ -104,6 +104,8 @@ class Part:
     # (what takes longest goes first, and all else takes what it leaves)
     nice: int = 15
     seconds: float = 0
+    # (of all processors)
+    busy: float = 0
     memory: int = 0
     passed: int = 0
     failed: int = 0
@@ -134,6 +136,7 @@ class Part:
                 elif TOLD.match(line) or PROGRESS.match(line) and time.monotonic() > shown + EVERY:
                     shown = time.monotonic()
                     say(f"{minutes(shown - began)}  {self.name}: {line.strip()[:150]}")
+            self.busy = busy_seconds(self.process)
         self.seconds = time.monotonic() - began
         self.count(lines, self.process.returncode == 0)
         if self.failed:
@@ -150,6 +153,16 @@ class Part:
         self.passed, self.failed = passed, failed or int(not is_well)
         self.lacked, self.left = SKIPPED.findall("\n".join(lines)), VARIANT.findall("\n".join(lines))
         self.bad = [it.strip() for it in lines if TOLD.match(it)] if self.failed else []
+
+
+def busy_seconds(process):
+    """The seconds of all processors that a process took, with those of the children that it waited for. It waits for the end."""
+    with contextlib.suppress(OSError):
+        # (until it is waited for, its numbers are there)
+        os.waitid(os.P_PID, process.pid, os.WEXITED | os.WNOWAIT)
+        fields = pathlib.Path(f"/proc/{process.pid}/stat").read_text().rpartition(")")[2].split()
+        return sum(map(int, fields[11:15])) / os.sysconf("SC_CLK_TCK")
+    return 0.0
 
 
 def sessions():
@@ -332,10 +345,11 @@ def building(*names):
 
 
 def table(parts, most, began):
-    """What each part took."""
+    """What each part took: how long it ran, for how many seconds of all processors, and the most memory."""
     width = max(len(it.name) for it in parts)
-    lines = [f"{it.name:{width}}  {minutes(it.seconds):>12}  {it.memory / 1e9:4.1f} GB  {it.passed:4} passed, {it.failed} failed, {it.skipped} skipped" for it in parts]
-    return "\n".join(["", *lines, f"{'in all':{width}}  {minutes(time.monotonic() - began):>12}  {most / 1e9:4.1f} GB"])
+    row = lambda name, seconds, busy, memory: f"{name:{width}}  {minutes(seconds):>12}  {busy:6.0f} s  {memory / 1e9:4.1f} GB"
+    lines = [f"{row(it.name, it.seconds, it.busy, it.memory)}  {it.passed:4} passed, {it.failed} failed, {it.skipped} skipped" for it in parts]
+    return "\n".join(["", *lines, row("in all", time.monotonic() - began, sum(it.busy for it in parts), most)])
 
 
 def failing(parts):
