@@ -222,7 +222,7 @@ def run_shell(cases, page, block, folder, programs):
 @contextlib.contextmanager
 def crate_of_readme(block):
     """The crate that README.md makes by these commands, in a room where the crate imgref and those below it are proved."""
-    with room("first_window") as made:
+    with room("imgref") as made:
         status, _, said = run(["bash", "-e", "-c", block], cwd=made.parent.parent)
         yield made.parent / "app", "" if status == 0 else said
 

@@ -28,14 +28,14 @@ ENTRIES = {"imgref_replay": "run::replay_into"}
 # The lower crate, file and function, and the clauses taken out; the upper crate and function; and what of the lower crate
 # goes with the clauses, since it rests on them too.
 CASES = [
-    ("row_mover", "moves", "compact_rows", ["cells"], "image_moves", "packing::with_joined_rows", []),
-    ("image_moves", "packing", "with_joined_rows", ["cells"], "image_moves", "packing::join_rows", []),
-    ("image_moves", "packing", "join_rows", ["cells"], "image_moves", "packing::pack", []),
-    ("image_moves", "packing", "pack", ["layout"], "imgref", "contiguous::ImgVec+T::as_contiguous_buf", []),
+    ("row_mover", "moves", "compact_rows", ["cells"], "row_mover", "packing::with_joined_rows", []),
+    ("row_mover", "packing", "with_joined_rows", ["cells"], "row_mover", "packing::join_rows", []),
+    ("row_mover", "packing", "join_rows", ["cells"], "row_mover", "packing::pack", []),
+    ("row_mover", "packing", "pack", ["layout"], "imgref", "contiguous::ImgVec+T::as_contiguous_buf", []),
     ("imgref", "contiguous", "as_contiguous_buf", ["after", "grid"], "imgref_replay", "step::compact", ["into_contiguous_buf"]),
-    ("row_mover", "moves", "move_rows", ["cells"], "image_moves", "moving::with_moved_window", []),
-    ("image_moves", "moving", "with_moved_window", ["moved"], "image_moves", "moving::move_pixels", []),
-    ("image_moves", "moving", "move_pixels", ["grid"], "imgref", "img::Img::move_inside", []),
+    ("row_mover", "moves", "move_rows", ["cells"], "row_mover", "windows::with_moved_window", []),
+    ("row_mover", "windows", "with_moved_window", ["moved"], "row_mover", "windows::move_pixels", []),
+    ("row_mover", "windows", "move_pixels", ["grid"], "imgref", "img::Img::move_inside", []),
     ("imgref", "blit", "move_inside", ["grid"], "imgref_replay", "copy::copy_between", ["move_window"]),
     ("imgref", "blit", "copy_window", ["grid"], "imgref_replay", "copy::copy_over", []),
 ]

@@ -8,7 +8,7 @@
 
 ghost use Rattle.std.specs.Prelude.{◌≡◌};
 
-use image_moves::{join_rows, move_pixels};
+use row_mover::{join_rows, move_pixels};
 use image_ops::{are_equal, copy_pixels, fill_pixels, joined_clones};
 use image_shape::{Shape, Window};
 use std::alloc::{AllocError, AllocFailed, Global};

@@ -15,7 +15,7 @@ ghost use Rattle.image_planes.specs.Scratch.{has_room, is_blur};
 
 use image_flips::{flip_rows, flip_window_columns};
 use image_means::{SampleBytes, blur_samples, mean_samples};
-use image_moves::move_pixels;
+use row_mover::move_pixels;
 use image_ops::{mosaic_window_by, repeat_window};
 use image_shape::{Shape, Window};
 

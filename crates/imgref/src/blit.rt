@@ -12,7 +12,7 @@ ghost use Rattle.imgref.specs.Image.{width_of, height_of, grid_by, layout_by, On
 use crate::containers::AsMutSlice;
 use crate::img::{Img, ImgRef};
 use image_flips::swap_rows;
-use image_moves::move_pixels;
+use row_mover::move_pixels;
 use image_ops::{copy_pixels, copy_window};
 use image_shape::Window;
 

@@ -5,7 +5,7 @@ ghost use Rattle.imgref_c.specs.Words.{code, image_status, layout, Packs};
 
 use crate::images::ClaimedShape;
 use crate::status::Status;
-use image_moves::join_rows;
+use row_mover::join_rows;
 
 // The rows are joined at the front of the cells; the cells after them stay.
 pub(crate) fn pack<T: Copy>(cells: &mut [T], claimed: ClaimedShape) -> Status

@@ -5,7 +5,7 @@ ghost use Rattle.imgref_c.specs.Words.{as_window, mosaic_of, mosaic_status_of, m
 
 use crate::images::ClaimedShape;
 use crate::status::Status;
-use image_moves::move_pixels;
+use row_mover::move_pixels;
 use image_ops::mosaic_window;
 use image_shape::Window;
 

@@ -21,6 +21,7 @@ mod drawing;
 mod figures;
 #[cfg(test)]
 mod fills;
+mod first_window;
 mod gauss;
 mod halves;
 mod hashes;
@@ -65,6 +66,7 @@ pub use conditions::{
 pub use counts::count_above;
 pub use crop::{crop_copy, crop_packed};
 pub use drawing::{dot, put_then_get, stripes, three_by_index, three_places};
+pub use first_window::write_through_window;
 pub use gauss::gaussian_3x3;
 pub use halves::halve;
 pub use hashes::have_one_hash;

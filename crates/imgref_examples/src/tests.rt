@@ -7,6 +7,7 @@ use crate::{
     FrameError, box_blur_3x3, brighten, brighten_copy, brighten_places, brighten_rows, crop_copy,
     dot, draw_any, draw_lent, draw_rect, flip_any, luma_plane, pixel_of_any, pixel_of_ref,
     pixel_of_vec, put_and_read, put_then_get, stripes, three_by_index, three_places,
+    write_through_window,
 };
 use imgref::{Img, ImgVec, Window};
 use std::alloc::{AllocError, Global};
@@ -20,6 +21,13 @@ fn padded(alloc: Global) -> Result<ImgVec<u8>, AllocError>
     ensures height { IfOk result (λ image. height_of image ≡ 2) }
 {
     Ok(Img::new_stride(CELLS.to_vec(alloc)?, 3, 2, 4))
+}
+
+#[test]
+fn a_window_is_written(rt: HostRuntime) {
+    let mut cells = [0u8; 9];
+    assert_eq!(rt; write_through_window(&mut cells), Some(7));
+    assert_eq!(rt; cells, [0u8, 0, 0, 0, 0, 7, 0, 0, 0]);
 }
 
 // The cells of the image, each pixel 10 brighter.

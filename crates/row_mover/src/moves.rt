@@ -1,3 +1,5 @@
+//! The moves of whole windows: the rows of an image that are joined, and a window that moves.
+
 ghost use Rattle.std.specs.Prelude.{◌≡◌, ◌+◌, ◌-◌, ◌*◌, ◌<◌, ◌≤◌, ◌++◌, length, drop};
 ghost use Rattle.image_model.specs.Layout.{layout, Fits};
 ghost use Rattle.image_model.specs.Rows.{joined_rows};

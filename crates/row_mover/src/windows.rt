@@ -8,8 +8,8 @@ ghost use Rattle.image_shape.specs.Shape.{shape_width, shape_height, shaped_grid
 ghost use Rattle.image_shape.specs.Window.{as_window};
 ghost use Rattle.image_writes.specs.Written.{Becomes};
 
+use crate::RowMover;
 use image_shape::{Shape, Window};
-use row_mover::RowMover;
 
 // The cells with the pixels of one window moved to another of its size. They are handed back whole,
 // so that what is done to them is known where they were lent.

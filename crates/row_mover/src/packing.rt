@@ -8,8 +8,8 @@ ghost use Rattle.image_model.specs.Rows.{joined_rows};
 ghost use Rattle.image_model.specs.Compaction.{IsPacked, packed};
 ghost use Rattle.image_shape.specs.Shape.{shape_width, shape_height, shaped_grid, shaped};
 
+use crate::RowMover;
 use image_shape::Shape;
-use row_mover::RowMover;
 
 // The cells with the rows of an image joined at their front. They are handed back whole, so that
 // what is done to them is known where they were lent. It isn't inlined: so rows that touch cost their

@@ -3,7 +3,7 @@ use Rattle.std.proofs.Common.{◌≡◌, ◌<◌, ◌*◌, ◌++◌, ◌∙◌, 
 use Rattle.std.proofs.Common.{take-append-drop}
 use Rattle.image_model.proofs.Rows.{joined_in_place}
 use Rattle.image_shape.specs.Shape.{shape_width, shape_height, shape_stride}
-use Rattle.image_moves.proofs.packing.join_rows.Goals as goal
+use Rattle.row_mover.proofs.packing.join_rows.Goals as goal
 
 pub returns-then-width-stride : goal.returns-then-width-stride
 returns-then-width-stride g c =

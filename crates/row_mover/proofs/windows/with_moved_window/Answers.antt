@@ -4,8 +4,8 @@ use Rattle.image_model.specs.Layout.{Layout}
 use Rattle.image_model.specs.Shifts.{MovesRows}
 use Rattle.image_shape.specs.Shape.{shaped}
 use Rattle.image_shape.specs.Window.{as_window, as_stretch}
-use Rattle.image_moves.proofs.Moves.{patched, kept}
-use Rattle.image_moves.proofs.moving.with_moved_window.Goals as goal
+use Rattle.row_mover.proofs.MovedWindows.{patched, kept}
+use Rattle.row_mover.proofs.windows.with_moved_window.Goals as goal
 
 pub returns-clause-moved : goal.returns-clause-moved
 returns-clause-moved g c =

@@ -1,4 +1,0 @@
-//! One file for each subject.
-
-mod means;
-mod moves;
