@@ -6,7 +6,7 @@
 #                          for it, where it may
 # make gate [BUGS=..]      everything from nothing: also the proofs of the tests, both builds, and the planted bugs. BUGS=changed: those
 #                          that a change affects. BUGS=landing goes on over what `make test` cached, as .ci/run does
-# make times [TIMES=..]    seconds of proof a function; TIMES: options of tools/times.py, as the names of crates, or --waits
+# make times [TIMES=..]    seconds of proof a function; TIMES: options of tools/times.py, as the names of crates, --waits or --modules
 #
 # make frames              proves and builds both programs: crates/imgref_frames/out/imgref_frames is for video and pictures
 # make c                   proves and builds the library for C: out/c/libimgref.a, libimgref.so, imgref.pc

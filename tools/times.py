@@ -3,6 +3,7 @@
 
     times.py [--tests] [--least SECONDS] [CRATE..]
     times.py --waits [PROGRAM..]
+    times.py --modules [--least SECONDS] [CRATE..]
 
 Each crate is proved from nothing by one job over the cached proofs of the crates below it, which are proved first where they
 have changed. A function's time runs from the one before it, so the first has the start and the loading of libraries in it.
@@ -12,11 +13,16 @@ counts as well.
 With --waits nothing is proved: it reads the logs of the last proofs that `make run`, `make frames` or `make c` made of these
 programs (without one of imgref_run and imgref_frames). It prints when each crate began and ended, what it waited for, and how many
 processors were busy meanwhile.
+
+With --modules nothing is proved: it reads when the last proof of each crate ended each module. It prints the longest modules, and
+the sums by kind: `Proof` is what tactics take at goals without an answer, `Answers` what written answers take, and `Lts` grows
+with the code alone. Each time runs from the module before, so it is exact only for proofs by one job.
 """
 import argparse
 import importlib.machinery
 import importlib.util
 import os
+import pathlib
 import re
 import shutil
 import sys
@@ -28,8 +34,12 @@ from workspace import ROOT, crates, need_rattle, room, with_those_below
 
 ENDED = re.compile(r"checked (\S+), \d+ of \d+")
 AFTER = "(after the last function)"
+# The proof files of one function.
+OF_A_FUNCTION = ("Answers", "Invariants", "Proof")
 # A crate that begins within so many seconds after another ended waited for that one.
 AT_ONCE = 3
+# Two modules that ended so many seconds apart are of two checks.
+PAUSE = 60
 
 
 def toolchain():
@@ -97,13 +107,56 @@ def tell_waits(names):
     return 0
 
 
+def modules_of(name):
+    """Each module of a crate's cached proofs with its seconds."""
+    saved = (ROOT / "crates" / name / "out/incremental").glob("*/*.oantt")
+    ended = sorted((it.stat().st_mtime, it.name) for it in saved)
+    took = {}
+    for (before, _), (end, file) in zip(ended, ended[1:]):
+        module = file.removesuffix(".oantt").removesuffix(".decls").removeprefix(f"Rattle-{name}-")
+        took[module] = took.get(module, 0.0) + (end - before if end - before < PAUSE else 0.0)
+    return took
+
+
+def kind_of(name, module):
+    """What a module is: a lemma file or a file of `specs`, and one of a function by its last word, as Proof, Answers or Lts."""
+    *folders, last = module.split(".")
+    written = (ROOT / "crates" / name / pathlib.Path(*folders) / f"{last}.antt").exists()
+    return f"{folders[0]}/, files of the crate" if written and last not in OF_A_FUNCTION else last
+
+
+def tell_modules(names, least):
+    """Prints the longest modules of these crates, and the sums by kind."""
+    total = 0.0
+    for name in names:
+        took = modules_of(name)
+        if not took:
+            print(f"{name}: it has no cached proofs")
+            continue
+        kinds = {}
+        for module, seconds in took.items():
+            kind = kind_of(name, module)
+            kinds[kind] = kinds.get(kind, 0.0) + seconds
+        total += sum(took.values())
+        print(f"{name}: {sum(took.values()):.1f} s, {len(took)} modules")
+        for word, rows in (("", took), ("all ", kinds)):
+            for row, seconds in sorted(rows.items(), key=lambda it: -it[1]):
+                if seconds >= least:
+                    print(f"  {seconds:6.1f}  {word}{row}")
+    print(f"{total:.1f} s in {len(names)} crates")
+    return 0
+
+
 def main():
     asked = argparse.ArgumentParser(description=__doc__, formatter_class=argparse.RawDescriptionHelpFormatter)
     asked.add_argument("crates", nargs="*")
     asked.add_argument("--tests", action="store_true")
     asked.add_argument("--waits", action="store_true")
+    asked.add_argument("--modules", action="store_true")
     asked.add_argument("--least", type=float, default=2.0, metavar="SECONDS")
     asked = asked.parse_args()
+    if asked.modules:
+        return tell_modules(asked.crates or [*crates()], asked.least)
     need_rattle()
     if asked.waits:
         return tell_waits(asked.crates or ["imgref_run", "imgref_frames"])

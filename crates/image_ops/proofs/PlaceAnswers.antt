@@ -1,6 +1,7 @@
 -- Cells and rows that a closure changes one after the other, by their numbers and places.
 use Rattle.std.proofs.Common.{◌≡◌, ℕ, ◌+◌, ◌-◌, ◌*◌, ◌<◌, ◌≤◌, List, length, set, take, drop, Option, Some, subst, ◌∙◌, arith, length-set}
 use Rattle.std.specs.List.{slice_get}
+use Rattle.std.proofs.lemmas.Option.{slice_get_within}
 use Rattle.image_model.proofs.Cells.{slice_get-set_other}
 use Rattle.image_model.specs.Rows.{row_count}
 use Rattle.image_model.specs.ByPlace.{HasPlaceAnswers}
@@ -41,4 +42,11 @@ answered_more {T} answers old now n value so within made = record {
       one_set (λ j new. (p' q' : T) → slice_get old j ≡ Some p' → new ≡ Some q' → answers j p' q') now n value (omega (arith, within, so.as_many))
       (λ j earlier p' q'. so.each j p' q' earlier) (λ p' q' was' is'. let same : value ≡ q' = cc is' in subst (answers n p') same (made p' was')) k below p q was is;
   others = λ k above. slice_get-set_other now n k value (λ e. absurd (omega (arith, e, above))) ∙ so.others k (omega arith);
+}
+
+-- where all cells are, each is an answer
+pub all_cells_answered : {T : Type 0} (answers : ℕ → T → T → Type 0) (old new : List T) (n : ℕ) → AnsweredTo answers old new n → length old ≤ n → AreAnswersAt answers old new
+all_cells_answered answers old new n so all = record {
+  as_many = so.as_many;
+  each = λ k p q was is. so.each k p q (omega (arith, slice_get_within old k p was, all)) was is;
 }

@@ -1,6 +1,7 @@
 -- Each block is written over the other.
 use Rattle.std.proofs.Common.{◌≡◌, ℕ, ◌+◌, ◌-◌, List, length, take, drop, refl, sym, subst, ap, ◌∙◌, arith}
 use Rattle.std.proofs.lemmas.List.{length-replicate}
+use Rattle.std.proofs.lemmas.Grind.{common_steps}
 use Rattle.image_writes.specs.Gathered.{AreGathered, mirrored_place}
 use Rattle.image_flips.proofs.Crossing.{HasStretch, gathered_stretch, blocks_crossed, mirrored_front, mirrored_rear, mirrored_stays}
 use Rattle.image_flips.proofs.flipping.exchange_blocks.Goals as goal
@@ -23,3 +24,15 @@ returns-clause-crossed g c =
     (λ j. mirrored_front len done n last j refl c.requires.inside)
     (λ j. mirrored_rear len done n last j refl c.requires.inside)
     (λ k. mirrored_stays len done n last k refl c.requires.inside)
+
+pub as_slice-requires : goal.as_slice-requires
+as_slice-requires g c = grind (arith, common_steps)
+
+pub copy_back-requires : goal.copy_back-requires
+copy_back-requires g c = grind (arith, common_steps)
+
+pub copy_back-requires-2 : goal.copy_back-requires-2
+copy_back-requires-2 g c = grind (arith, common_steps)
+
+pub copy_from_slice-requires : goal.copy_from_slice-requires
+copy_from_slice-requires g c = grind (arith, common_steps)

@@ -1,5 +1,6 @@
 -- The image shows at the window what was written there.
-use Rattle.std.proofs.Common.{ap, ◌∙◌}
+use Rattle.std.proofs.Common.{ap, ◌∙◌, arith}
+use Rattle.std.proofs.lemmas.Grind.{common_steps}
 use Rattle.image_model.specs.Grid.{grid_of, patch}
 use Rattle.image_writes.specs.Mosaic.{mosaic_by}
 use Rattle.image_shape.specs.Shape.{shaped}
@@ -14,3 +15,9 @@ returns-clause-grid g c =
 
 pub returns-clause-outside : goal.returns-clause-outside
 returns-clause-outside g c = part_outside _ _ _ _ _ _ c.exact_part.ensures.part c.mosaic_cells.new.cells c.mosaic_cells.ensures.outside
+
+pub mosaic_cells-requires-clause-fits : goal.mosaic_cells-requires-clause-fits
+mosaic_cells-requires-clause-fits g c = grind (arith, common_steps)
+
+pub offset_bounds-cells-part : goal.offset_bounds-cells-part
+offset_bounds-cells-part g c = grind (arith, common_steps)

@@ -1,5 +1,6 @@
 -- The image shows at the window what was written there.
-use Rattle.std.proofs.Common.{ap, ◌∙◌}
+use Rattle.std.proofs.Common.{ap, ◌∙◌, arith}
+use Rattle.std.proofs.lemmas.Grind.{common_steps}
 use Rattle.image_model.specs.Grid.{grid_of, patch}
 use Rattle.image_ops.specs.Repeated.{repeated}
 use Rattle.image_shape.specs.Shape.{shaped}
@@ -21,3 +22,12 @@ pub returns-then-pattern-eq1-clause-grid : goal.returns-then-pattern-eq1-clause-
 returns-then-pattern-eq1-clause-grid g c =
     let a = c.args in
     c.fill_window.ensures.grid ∙ ap (patch (grid_of (shaped a.cells.now a.shape)) a.window.left a.window.top) (one_value a.window.width a.window.height a.pattern.now c.index-pattern-0.result c.if-pattern-eq1.true c.index-pattern-0.is)
+
+pub offset_bounds-cells-part : goal.offset_bounds-cells-part
+offset_bounds-cells-part g c = grind (arith, common_steps)
+
+pub fill_window-requires-clause-fits : goal.fill_window-requires-clause-fits
+fill_window-requires-clause-fits g c = grind (arith, common_steps)
+
+pub repeat_pixels-requires-clause-fits : goal.repeat_pixels-requires-clause-fits
+repeat_pixels-requires-clause-fits g c = grind (arith, common_steps)

@@ -1,6 +1,7 @@
 -- The rows so far come from the source.
 use Rattle.std.proofs.Common.{◌+◌, ◌-◌, ◌*◌, ◌<◌, sym, ap, ◌∙◌, arith}
 use Rattle.std.specs.List.{slice_get}
+use Rattle.std.proofs.lemmas.Grind.{common_steps}
 use Rattle.image_model.specs.Layout.{Layout}
 use Rattle.image_model.specs.Grid.{grid_of}
 use Rattle.image_model.specs.Rows.{row_count}
@@ -38,3 +39,15 @@ returns g c =
     let from : Layout g.row.T.Denot = shaped c.args.source.now c.args.from.shape in
     becomes_places from (source_column c.args.from.crossing from.width) (source_row c.args.from.crossing from.height) _ _ c.args.shape c.loop-y.y c.loop-y.invariant _ _ c.requires.columns c.requires.lines (omega (arith, c.row_count-y-end.ensures.value))
     (source_place c.args.from.crossing from.width from.height)
+
+pub overflow_add-last : goal.overflow_add-last
+overflow_add-last g c = grind (arith, common_steps)
+
+pub gather_back-requires-clause-enough : goal.gather_back-requires-clause-enough
+gather_back-requires-clause-enough g c = grind (arith, common_steps)
+
+pub offset_bounds-cells-range : goal.offset_bounds-cells-range
+offset_bounds-cells-range g c = grind (arith, common_steps)
+
+pub row-last-requires-clause-fits : goal.row-last-requires-clause-fits
+row-last-requires-clause-fits g c = grind (arith, common_steps)
