@@ -19,12 +19,12 @@ import sys
 import tempfile
 
 sys.path.insert(0, str(pathlib.Path(__file__).resolve().parents[2]))
+from caches import SIMULATED
 from checking import ROOT, Cases, built
 
 FILE = ROOT / "bench/instructions.txt"
 # The jobs whose time is waiting for memory, of which misses count too.
 CACHED = ("turns", "windows", "narrow", "strips")
-CACHE = ("--cache-sim=yes", "--D1=32768,8,64", "--I1=32768,8,64", "--LL=8388608,16,64")
 # What a build may take more.
 MARGIN = 1.03
 HEAD = """# Instructions of each job at full size with the number 1, in the program's own code, and for some the misses of the nearest cache.
@@ -65,7 +65,7 @@ def counted(program, name, words):
     program = program.resolve()
     with tempfile.TemporaryDirectory(prefix="counted-") as room:
         out = pathlib.Path(room, "costs")
-        how = ["valgrind", "--tool=callgrind", f"--callgrind-out-file={out}", *(CACHE if name in CACHED else ())]
+        how = ["valgrind", "--tool=callgrind", f"--callgrind-out-file={out}", *(SIMULATED if name in CACHED else ())]
         subprocess.run([*how, program, *words], cwd=ROOT / "bench", check=True, stdin=subprocess.DEVNULL, stdout=subprocess.DEVNULL, stderr=subprocess.DEVNULL)
         with open(out, encoding="utf-8", errors="replace") as lines:
             costs = own_costs(lines, program)
