@@ -1,7 +1,7 @@
 #!/usr/bin/env python3
 """Counts the instructions of the benchmark's jobs, which don't drift as times do, and compares them with bench/instructions.txt.
 
-Each job of bench/workloads.txt runs whole, with the number 1, under `valgrind --tool=callgrind`. Only the program's own code counts,
+Each job of bench/workloads.txt runs whole, with seed 1, under `valgrind --tool=callgrind`. Only the program's own code counts,
 since the C library chooses other code on other processors. For some jobs the misses of the nearest cache (32 KiB, eight ways,
 lines of 64 bytes) count too. A number that is more than 3 % above the file's fails, and so does a job of which nothing was counted.
 About a minute a job.
@@ -27,7 +27,7 @@ FILE = ROOT / "bench/instructions.txt"
 CACHED = ("turns", "windows", "narrow", "strips")
 # What a build may take more.
 MARGIN = 1.03
-HEAD = """# Instructions of each job at full size with the number 1, in the program's own code, and for some the misses of the nearest cache.
+HEAD = """# Instructions of each job at full size with seed 1, in the program's own code, and for some the misses of the nearest cache.
 # .ci/checks/built/instructions.py compares a build with these, and --write writes them again.
 """
 # Lines of callgrind's output: the object of what follows or of what is called, a call, whose next line is what it took, and a cost.
