@@ -141,14 +141,14 @@ imgref_status imgref_tile(size_t width, size_t height, size_t tile_width, size_t
  * equal        Whether two images have one size and equal pixels at every place goes to `equal`; strides and padding don't
  *              count. NOT_AN_IMAGE (of either).
  * flood_fill   The pixel in column x of row y becomes `value`, and so does each that is connected with it: a path leads there
- *              over sides, and over places that show the same pixel. `room` has a number for each place, width * height of
- *              them. What it has then means nothing. NOT_AN_IMAGE, PLACE_OUTSIDE, NO_ROOM.
+ *              over sides, and over places that show the same pixel. The work buffer `room` has a number for each place,
+ *              width * height of them. What it has then means nothing. NOT_AN_IMAGE, PLACE_OUTSIDE, NO_ROOM.
  * components   `labels` is an image of the same size at a stride of its own. Each place gets a label there, and two places have
  *              one label exactly if they are connected, as in flood_fill. No pixel value is background. The labels are 1, 2 and
- *              so on up to the number of regions, which goes to `count`: imgref_u64_count of a label is the area of a region.
+ *              so on up to the number of connected components, which goes to `count`. imgref_u64_count of a label is an area.
  *              `room` is as in flood_fill. NOT_AN_IMAGE (of either), NO_ROOM.
- * bounding_box The least window that has every place with a value goes to `around`. With a label it is the box around a region.
- *              Where no place has the value, it is 0, 0, 0, 0. NOT_AN_IMAGE.
+ * bounding_box The least window that has every place with a value goes to `around`. With a label it is the box around that
+ *              component. Where no place has the value, it is 0, 0, 0, 0. NOT_AN_IMAGE.
  */
 #define IMGREF_CALLS(NAME, CELL)                                                                                             \
     imgref_status imgref_##NAME##_get(const CELL *cells, size_t len, size_t width, size_t height, size_t stride, size_t x,    \

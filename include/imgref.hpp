@@ -91,7 +91,7 @@ private:
         case IMGREF_NO_TILE: return "no such tile";
         case IMGREF_NO_TURN: return "no such turn";
         case IMGREF_TOO_LARGE: return "a sum might not fit";
-        case IMGREF_NO_ROOM: return "the room has too few numbers";
+        case IMGREF_NO_ROOM: return "the work buffer has too few numbers";
         default: return "refused";
         }
     }
@@ -421,18 +421,18 @@ public:
         detail::done(calls::flood_fill(written(), len_, width_, height_, stride_, x, y, bits(pixel), room.get(), width_ * height_));
     }
 
-    // Each pixel of `labels`, which has this size, becomes the label of its region, and the number of
-    // regions is returned. The labels begin at 1. Two places have one label exactly if they are
-    // connected, as in flood_fill. Allocates a number for each place.
+    // Each pixel of `labels`, which has this size, becomes the label of its connected component, and the
+    // number of components is returned. The labels begin at 1. Two places have one label exactly if they
+    // are connected, as in flood_fill. Allocates a number for each place.
     std::size_t components_into(view<std::uint64_t> labels) const {
         needs_beside(labels);
         const auto room = room_of_all();
-        std::uint64_t regions = 0;
-        detail::done(calls::components(cells(), len_, width_, height_, stride_, labels.written(), labels.len_, labels.stride_, room.get(), width_ * height_, &regions));
-        return static_cast<std::size_t>(regions);
+        std::uint64_t count = 0;
+        detail::done(calls::components(cells(), len_, width_, height_, stride_, labels.written(), labels.len_, labels.stride_, room.get(), width_ * height_, &count));
+        return static_cast<std::size_t>(count);
     }
 
-    // The least window that has every place with a value. With a label it is the box around a region.
+    // The least window that has every place with a value. With a label it is the box around its component.
     // It is empty where no place has the value.
     template <class Value = value_type, class = if_fits<Value>> rect bounding_box(const Value &value) const {
         rect around{};

@@ -50,7 +50,7 @@ RUNS = 7
 BUILDS = 5
 # How many bytes the planes of a frame have: 1920 by 1080 of brightness, and half as many of chroma.
 CELLS = 1920 * 1080 * 3 // 2
-# The same of a picture in colour, and the head before it.
+# The same of a picture in colour, and the header before it.
 HEAD, COLOURS = b"P6\n1920 1080\n255\n", 1920 * 1080 * 3
 EDITS = ("fill 64,48,320,160 16", "mosaic 64,48,320,160 16,16", "move 64,48,320,160 800,400", "crop 320,180,1280,720", "pad 0,60,0,60 16")
 # ffmpeg's filters that do the same to each frame, and ffmpeg with one of them on one thread.

@@ -16,6 +16,7 @@ import pathlib
 import shutil
 import sys
 
+import installed_pages
 from processes import end_on_signals, run_to_end
 from program import built, say
 from version import MAJOR, MINOR, VERSION
@@ -29,7 +30,6 @@ MAN = ROOT / "man"
 # imgref-hide: its modules, those of the examples that it shares, and what completes its words in a shell.
 HIDE = ROOT / "programs"
 SHARED = ("boxes.py", "detect_faces.py", "detect_people.py", "detecting.py", "review.py", "y4m.py")
-PAGES = ("HIDE.md", "FRAMES.md", "SCRIPT.md")
 COMPLETIONS = {"share/bash-completion/completions/imgref-hide": "imgref-hide.bash", "share/zsh/site-functions/_imgref-hide": "_imgref-hide"}
 OUT = ROOT / "out/c"
 # The number that changes where a built caller has to be built again.
@@ -151,8 +151,8 @@ def scripts_and_pages():
     """The files of imgref-hide, the examples that it shares and the pages of the programs, by their paths below a prefix."""
     files = {"bin/imgref-hide": HIDE / "imgref-hide"} | {path: HIDE / "completions" / name for path, name in COMPLETIONS.items()}
     files |= {f"share/imgref/programs/imgref_hide/{it.name}": it for it in sorted((HIDE / "imgref_hide").glob("*.py"))}
-    files |= {f"share/doc/imgref/{it}": ROOT / "docs" / it for it in PAGES}
-    return files | {f"share/imgref/examples/{it}": ROOT / "examples" / it for it in SHARED}
+    files |= {f"share/imgref/examples/{it}": ROOT / "examples" / it for it in SHARED}
+    return files | installed_pages.files()
 
 
 def install(prefix, stage=""):
@@ -167,7 +167,7 @@ def install(prefix, stage=""):
         shutil.copy2(source, prefix / path)
     linked(prefix / "lib", is_installed=True)
     texts = {"lib/pkgconfig/imgref.pc": package(named, "${prefix}/include", "${prefix}/lib")}
-    texts |= {f"lib/cmake/imgref/{name}": text for name, text in cmake().items()}
+    texts |= {f"lib/cmake/imgref/{name}": text for name, text in cmake().items()} | installed_pages.texts()
     for below, text in texts.items():
         (prefix / below).parent.mkdir(parents=True, exist_ok=True)
         (prefix / below).write_text(text)

@@ -9,6 +9,7 @@ import shutil
 import tempfile
 
 import c_library
+import installed_pages
 from c_library import ABI, Failure, Tools
 from packing import Link
 from processes import run_to_end
@@ -38,6 +39,7 @@ class Processor:
             if name.startswith("lib/"):
                 source = self.out() / source.name
             files[name] = stripped(source) if source in programs else source.read_bytes()
+        files |= {name: text.encode() for name, text in installed_pages.texts().items() if name in files}
         files["lib/libimgref.so"] = Link(f"libimgref.so.{ABI}")
         files["lib/pkgconfig/imgref.pc"] = c_library.package("${pcfiledir}/../..", "${prefix}/include", "${prefix}/lib").encode()
         files |= {f"lib/cmake/imgref/{name}": text.encode() for name, text in c_library.cmake().items()}

@@ -3,7 +3,7 @@ import dataclasses
 import math
 import statistics
 
-# The heads of the columns that compare a call: with what, in the order of the times that the C side writes.
+# The headers of the columns that compare a call: with what, in the order of the times that the C side writes.
 COMPARED = ("vs. loop in C", "vs. plain C call", "vs. loop in Rust", "vs. original crate")
 # Those that do the same work as the call. (The plain call in C has no rows.)
 SAME_WORK = {0: "loop in C", 2: "loop in Rust", 3: "original crate"}

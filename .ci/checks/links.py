@@ -6,6 +6,8 @@ An anchor is made from a heading by GitHub's rules. Marks of Markdown and all si
 and blanks become hyphens. The second heading of the same name ends in `-1`. The names of `<a id=..>` are anchors too. In a file
 that isn't a page an anchor is `#L` and the number of a line, and the file has that line. What is below out/ is built, so no page
 may link to it. Every run also shows that dead files, anchors and lines are found.
+
+In the pages as they are installed, each link leads to what is installed with them.
 """
 import functools
 import pathlib
@@ -14,6 +16,9 @@ import sys
 
 sys.path.insert(0, str(pathlib.Path(__file__).resolve().parent.parent))
 from checking import ROOT, Cases
+
+import installed_pages
+import libraries
 
 PAGES = ("*.md", "docs/**/*.md", "bench/*.md", "bindings/*/README.md")
 FENCED = re.compile(r"(?ms)^```.*?^```$")
@@ -84,6 +89,20 @@ def dead(page, text):
     return [it for it in (fault(page, text, target) for target in targets(text)) if it]
 
 
+def check_installed(cases):
+    """The pages as they are installed and packed, with the pictures that they show."""
+    text = "[a](HIDE.md#many-videos), [b](API.md#x), ![c](frames.png), [README.md](../README.md), [d](#e), [f](https://example.org/)"
+    due = "[a](HIDE.md#many-videos), b (docs/API.md of the sources), ![c](frames.png), README.md of the sources, [d](#e), [f](https://example.org/)"
+    cases.count("a link to what isn't installed becomes words", installed_pages.as_installed(text) == due, installed_pages.as_installed(text))
+    files, packed = installed_pages.files(), libraries.sources(with_programs=True)
+    cases.count("the pages of the programs and their pictures are installed", len(files) > 3 and files.items() <= packed.items(), f"{[*files]}")
+    for path, text in installed_pages.texts().items():
+        page, leads = files[path], [it for it in targets(text) if not ELSEWHERE.match(it)]
+        outside = [it for it in leads if not it.startswith("#") and f"{installed_pages.FOLDER}/{it.partition('#')[0]}" not in files]
+        wrong = outside + dead(page, text)
+        cases.count(f"{path}: {len(leads)} links to what is installed", not wrong, "\n".join(f"  {it}" for it in wrong))
+
+
 def main():
     cases = Cases()
     found = [it.split(":")[0] for it in dead(ROOT / "TRIED.md", TRIED)]
@@ -92,6 +111,7 @@ def main():
         text = page.read_text()
         wrong = dead(page, text)
         cases.count(f"{page.relative_to(ROOT)}: {len(targets(text))} links", not wrong, "\n".join(f"  {it}" for it in wrong))
+    check_installed(cases)
     return cases.end()
 
 

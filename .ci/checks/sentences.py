@@ -7,7 +7,8 @@ long is shown with its number of words.
 
 A paragraph, a list item and a cell have at most 60 words and five sentences: a longer one is a wall, and a list reads better. A row
 of a table is about one thing: no cell has a semicolon, and the first cell names at most four pieces of code, of which all else is true.
-Each page has its words: LIMITS has the most that it may have, counted as by `wc -w`. A page of LINES is short in lines too.
+Each page has its words: LIMITS has the most that it may have, counted as by `wc -w`. All together have at most MOST_IN_ALL. A page of
+LINES is short in lines too.
 
     sentences.py             everything
     sentences.py PAGE ..     only these pages, by all rules (a path from the top, such as docs/WEB.md)
@@ -43,15 +44,16 @@ LIMITS = {
     "bindings/rust/README.md": 450,
     "docs/ARCHITECTURE.md": 850,
     "docs/C.md": 1670,
-    "docs/CALLERS.md": 1200,
+    "docs/CALLERS.md": 1210,
     "docs/CALLERS_REFERENCE.md": 3650,
     "docs/CPP.md": 1000,
-    "docs/DECISIONS.md": 3590,
+    "docs/DECISIONS.md": 2250,
     "docs/DIFFERENCES.md": 1710,
     "docs/FRAMES.md": 3170,
     "docs/GLOSSARY.md": 1430,
-    "docs/HIDE.md": 1000,
-    "docs/maintainers/PERF.md": 1450,
+    "docs/HIDE.md": 1040,
+    "docs/maintainers/FORMS.md": 1360,
+    "docs/maintainers/PERF.md": 1400,
     "docs/PERFORMANCE.md": 1600,
     "docs/PROMISES.md": 2740,
     "docs/PYTHON.md": 1880,
@@ -61,6 +63,7 @@ LIMITS = {
     "docs/WEB.md": 1310,
 }
 OTHER_PAGE = 600
+MOST_IN_ALL = 36000
 # The most lines of the pages that are mostly one table.
 LINES = {"docs/CPP.md": 90, "docs/RUST.md": 90}
 # A page with two walls and two rows of more than one thing.
@@ -245,6 +248,12 @@ def table(paths):
     for it in paths:
         text = it.read_text()
         yield f"{named(it):30} {len(text.split()):6} {limit(it):6} {len([*walls(text)]):6} {len([*crowded(text)]):19}"
+    yield f"{'all':30} {in_all(paths):6} {MOST_IN_ALL:6}"
+
+
+def in_all(paths):
+    """The words of all pages."""
+    return sum(len(it.read_text().split()) for it in paths)
 
 
 def sized(cases, path):
@@ -281,6 +290,7 @@ def main(words):
     cases.count(f"the documents: {len(found)} loose sentences of at most {MOST_LOOSE}", len(found) <= MOST_LOOSE, "\n".join(found))
     if words:
         return cases.end()
+    cases.count(f"the documents: {in_all(pages)} words of at most {MOST_IN_ALL}", in_all(pages) <= MOST_IN_ALL)
     long = [line for it in sources if it.suffix == ".rt" for line in long_in_code(it)]
     cases.count(f"doc lines of the crates: no sentence of more than {MOST_WORDS} words", not long, "\n".join(long))
     return cases.end()

@@ -679,7 +679,7 @@ static size_t *room_of(const image *i) {
     return room;
 }
 
-/* A colour is taken for so many bytes. The sums lie first in the room, since they have four bytes each. */
+/* A colour is taken for so many bytes. The sums lie first in the work buffer, since they have four bytes each. */
 CALL(call_blur) {
     (void)module;
     size_t n[7], bytes, numbers;
@@ -716,7 +716,7 @@ CALL(call_flood_fill) {
     return done_in(&i, status, NULL);
 }
 
-/* How many regions there are. The labels go to an image of the same size, of numbers of eight bytes. */
+/* How many connected components there are. The labels go to an image of the same size, of numbers of eight bytes. */
 CALL(call_components) {
     (void)module;
     size_t *room;

@@ -192,12 +192,12 @@ static imgref_status image_mosaic_means(const image *i, imgref_rect window, size
     }
 }
 
-/* The room that a blur of a window needs: so many bytes, and so many numbers of four bytes. */
+/* The work buffer that a blur of a window needs: so many bytes, and so many numbers of four bytes. */
 static imgref_status image_blur_room(const image *i, imgref_rect window, size_t *bytes, size_t *numbers) {
     return imgref_blur_room(i->len, i->width / i->step, i->height, i->stride, i->step, window, bytes, numbers);
 }
 
-/* The cells are bytes, and there is that room: the caller tests it. */
+/* The cells are bytes, and there is that buffer: the caller tests it. */
 static imgref_status image_blur(const image *i, imgref_rect window, size_t across, size_t down, uint8_t *copy, size_t bytes, uint32_t *sums, size_t numbers) {
     return imgref_u8_blur(PIXELS(uint8_t, i), i->step, window, across, down, copy, bytes, sums, numbers);
 }
@@ -218,7 +218,7 @@ static imgref_status image_integral(const image *i, const image *areas) {
 /* How many cells an image has. */
 #define ALL(OF) ((OF)->width * (OF)->height)
 
-/* A pixel is one cell, and the room has a number for each: the caller tests it. */
+/* A pixel is one cell, and the work buffer has a number for each: the caller tests it. */
 #define FLOOD_FILL(NAME, TYPE) imgref_##NAME##_flood_fill(LAYOUT(TYPE, i), x, y, (TYPE)bits, room, ALL(i))
 static imgref_status image_flood_fill(const image *i, size_t x, size_t y, uint64_t bits, size_t *room) { BY_SIZE(FLOOD_FILL) }
 

@@ -43,7 +43,7 @@ static void hide(const imgref::rect &window, unsigned char value) {
     imgref::view picture(pixels, width, height);
     picture.fill(window, value);
 
-    std::cout << "P5\n" << width << ' ' << height << '\n' << most << '\n'; // the head of a PGM
+    std::cout << "P5\n" << width << ' ' << height << '\n' << most << '\n'; // the header of a PGM
     std::cout.write(reinterpret_cast<const char *>(pixels.data()), static_cast<std::streamsize>(pixels.size()));
     if (!std::cout.flush()) throw std::invalid_argument("not written");
 }

@@ -177,7 +177,7 @@ def not_kept(video, bits):
     if video.others:
         yield f"left out: {', '.join(sorted(set(video.others)))}"
     if video.turned:
-        yield f"the picture is turned by {video.turned} degrees, as players show it"
+        yield f"the picture is rotated by {video.turned} degrees, as players show it"
 
 
 def foreign(left):

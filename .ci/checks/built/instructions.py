@@ -1,7 +1,7 @@
 #!/usr/bin/env python3
 """Counts the instructions of the benchmark's jobs, which don't drift as times do, and compares them with bench/instructions.txt.
 
-Each job of bench/workloads.txt runs whole, with the number 1, under `valgrind --tool=callgrind`. Only the program's own code counts,
+Each job of bench/workloads.txt runs whole, with seed 1, under `valgrind --tool=callgrind`. Only the program's own code counts,
 since the C library chooses other code on other processors. For some jobs the misses of the nearest cache (32 KiB, eight ways,
 lines of 64 bytes) count too. A number that is more than 3 % above the file's fails, and so does a job of which nothing was counted.
 About a minute a job.
@@ -19,15 +19,15 @@ import sys
 import tempfile
 
 sys.path.insert(0, str(pathlib.Path(__file__).resolve().parents[2]))
+from caches import SIMULATED
 from checking import ROOT, Cases, built
 
 FILE = ROOT / "bench/instructions.txt"
 # The jobs whose time is waiting for memory, of which misses count too.
 CACHED = ("turns", "windows", "narrow", "strips")
-CACHE = ("--cache-sim=yes", "--D1=32768,8,64", "--I1=32768,8,64", "--LL=8388608,16,64")
 # What a build may take more.
 MARGIN = 1.03
-HEAD = """# Instructions of each job at full size with the number 1, in the program's own code, and for some the misses of the nearest cache.
+HEAD = """# Instructions of each job at full size with seed 1, in the program's own code, and for some the misses of the nearest cache.
 # .ci/checks/built/instructions.py compares a build with these, and --write writes them again.
 """
 # Lines of callgrind's output: the object of what follows or of what is called, a call, whose next line is what it took, and a cost.
@@ -65,7 +65,7 @@ def counted(program, name, words):
     program = program.resolve()
     with tempfile.TemporaryDirectory(prefix="counted-") as room:
         out = pathlib.Path(room, "costs")
-        how = ["valgrind", "--tool=callgrind", f"--callgrind-out-file={out}", *(CACHE if name in CACHED else ())]
+        how = ["valgrind", "--tool=callgrind", f"--callgrind-out-file={out}", *(SIMULATED if name in CACHED else ())]
         subprocess.run([*how, program, *words], cwd=ROOT / "bench", check=True, stdin=subprocess.DEVNULL, stdout=subprocess.DEVNULL, stderr=subprocess.DEVNULL)
         with open(out, encoding="utf-8", errors="replace") as lines:
             costs = own_costs(lines, program)

@@ -6,12 +6,13 @@ pixels exchanged. Both builds are run that `rt ci` leaves. Where the machine has
 """
 import pathlib
 import random
+import re
 import subprocess
 import sys
 import tempfile
 
 sys.path.insert(0, str(pathlib.Path(__file__).resolve().parents[2]))
-from checking import Cases, both_builds
+from checking import ROOT, Cases, both_builds
 from tries import count_tries, ends, exchanged, lines_said
 
 # Flips, half turns and quarter turns by netpbm.
@@ -188,6 +189,13 @@ def by_reasons(cases, program):
         cases.count(f"{given[:40]!r} is refused: {reason}", lines[0] == "fault header" and len(lines) == 3 and reason in lines[1], str(lines))
 
 
+def by_page(cases, program):
+    """The picture of docs/FRAMES.md shows what the command below it does. (That is of a video, whose black is 16.)"""
+    words = re.search(r"`imgref_frames (fill \S+) 16 (mosaic [^`]+)`", (ROOT / "docs/FRAMES.md").read_text())
+    before, after = (subprocess.run(["bash", "-c", f"pngtopnm docs/frames.png | pamcut -left {left} -width 320"], cwd=ROOT, capture_output=True, check=True).stdout for left in (0, 336))
+    cases.count("docs/frames.png: the right half is the left one, edited", words and before != after and ends(program, f"{words[1]} 0 {words[2]}".split(), before)[0] == after)
+
+
 def main():
     cases = Cases()
     for program in both_builds(cases, "imgref_frames"):
@@ -196,6 +204,7 @@ def main():
         by_reasons(cases, str(program))
         if not cases.lacks("edits beside netpbm's", "netpbm"):
             by_netpbm(cases, str(program))
+            by_page(cases, str(program))
     return cases.end()
 
 

@@ -4,7 +4,7 @@
 No clause can say that memory is found, and every contract allows the result out of memory. So the script program is run on each
 example, and the one for video on a small stream with each kind of edits, with the first growth refused, then with the second,
 until a run has none to refuse. Each time but the last it must say `fault memory` alone, on the stream for faults, and end with
-status 3: so all memory is taken before the first byte is written. One growth is spared: where the room for the lines of a large
+status 3: so all memory is taken before the first byte is written. One growth is spared: where the buffer for the lines of a large
 image is refused, the text grows line by line, and all is printed. The one for video says how many pictures it has written, and
 wrote exactly those. Each test is run so too, and must pass or return the refusal as its result: an assertion that fails shows an
 result that changed in the place of the error.

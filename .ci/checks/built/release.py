@@ -260,11 +260,11 @@ def tried_inside(cases, release, room):
     """The packages where there is no toolchain and no network, each as its page says."""
     made = MADE["amd64"].result()
     if isinstance(made, str):
-        cases.skip("a release where there is no toolchain", made, number=14)
+        cases.skip("a release where there is no toolchain", made, number=15)
         return
     inside = Inside(made, room)
     if not shutil.which("unshare") or inside.run("true")[0]:
-        cases.skip("a release where there is no toolchain", "namespaces", number=14)
+        cases.skip("a release where there is no toolchain", "namespaces", number=15)
         return
     given(room / "given", release)
     status, wrote, said = inside.run("command -v rt; ls /opt; cat /proc/net/dev | tail -n +3 | cut -d: -f1")
@@ -322,6 +322,9 @@ def hiding_inside(cases, inside):
     cases.count("imgref-hide covers a face after dpkg -i alone", status == 0 and len(frames) == 6 and max(eyes) < 40, f"{eyes} {said[-2000:] if status else ''}")
     status, wrote, said = inside.run("cd /tmp; head -c 4 out.sheet.png | tail -c 3; man 1 imgref-hide | head -1 | grep -o -m1 '^IMGREF-HIDE(1)'; bash -c 'complete -p imgref-hide 2>&1; . /usr/share/bash-completion/completions/imgref-hide; complete -p imgref-hide'")
     cases.count("and makes its sheet, with a man page and completion", status == 0 and wrote.startswith(b"PNGIMGREF-HIDE(1)\n") and b"-F _imgref_hide" in wrote, said)
+    dead = r"""grep -ohE '\]\([^)#:]+' *.md | cut -c3- | sort -u | while read it; do test -e "$it" || echo "$it"; done"""
+    status, wrote, said = inside.run(f"cd /usr/share/doc/imgref-tools && test -e frames.png && {dead}")
+    cases.count("each link of its pages leads to an installed file", (status, wrote) == (0, b""), said)
 
 
 def wheel_inside(cases, inside):

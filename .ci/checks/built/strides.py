@@ -13,6 +13,7 @@ import subprocess
 import sys
 
 sys.path.insert(0, str(pathlib.Path(__file__).resolve().parents[2]))
+from caches import SIMULATED
 from checking import Cases, built
 
 # The side of the square for pixels of so many bytes, so that a row has less than 2048.
@@ -27,8 +28,9 @@ LIMITS = {
     "right-in-place": {1: 3.6, 2: 3.05, 3: 2.2, 4: 2.2, 8: 1.3, 16: 1.2},
     "across-in-place": {1: 5.25, 2: 4.6, 3: 3.05, 4: 2.9, 8: 1.5, 16: 1.4},
 }
-MODEL = ["valgrind", "--tool=cachegrind", "--cache-sim=yes", "--D1=32768,8,64", "--cachegrind-out-file=/dev/null"]
-MISSES = re.compile(r"D1 +misses: +([\d,]+)")
+MODEL = ["valgrind", "--tool=cachegrind", "--cachegrind-out-file=/dev/null", *SIMULATED]
+# The line of the nearest cache for data. (That of the last one begins with LLd.)
+MISSES = re.compile(r"\bD\d +misses: +([\d,]+)")
 
 
 def misses(program, action, pixel, stride):

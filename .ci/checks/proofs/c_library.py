@@ -15,6 +15,7 @@ sys.path.insert(0, str(pathlib.Path(__file__).resolve().parents[2]))
 from checking import ROOT, Cases, side_by_side
 from library import WARNINGS, counted, installed, run
 
+import installed_pages
 from inspection import NEEDED, symbols
 from version import MAJOR, MINOR, PATCH, VERSION
 
@@ -274,8 +275,9 @@ def check_programs(cases, prefix):
     cases.count("imgref_frames is installed", (status, wrote) == (0, b"P5\n2 1\n255\nBA"), said)
     status, wrote, said = run([prefix / "bin/imgref-boxes"], input=b"frame,x1,y1,x2,y2\n1,2,3,5,7\n")
     cases.count("imgref-boxes is installed", (status, wrote) == (0, b"1,-1,2,3,3,4\n"), said)
-    lacking = [it for it in ("HIDE.md", "FRAMES.md", "SCRIPT.md") if not (prefix / "share/doc/imgref" / it).is_file()]
-    cases.count("the pages of the programs are installed", not lacking, str(lacking))
+    lacking = [it for it in installed_pages.files() if not (prefix / it).is_file()]
+    lacking += [it for it, text in installed_pages.texts().items() if it not in lacking and (prefix / it).read_text() != text]
+    cases.count("the pages of the programs are installed, with links to what is installed", not lacking, str(lacking))
     check_hiding(cases, prefix)
 
 

@@ -1,4 +1,4 @@
-"""Values, sums and regions of images, as functions of an image or of a buffer."""
+"""Values, sums and connected components of images, as functions of an image or of a buffer."""
 from __future__ import annotations
 
 from array import array
@@ -62,7 +62,7 @@ def flood_fill(image: Image | Buffer, place: tuple[int, int], value: Pixel) -> N
 
 
 def components(image: Image | Buffer) -> tuple[int, Image]:
-    """How many regions of connected pixels there are, and the label of each pixel, as a number of 64
+    """How many connected components there are, and the label of each pixel, as a number of 64
     bits. Two pixels have one label exactly if they are connected, as in `flood_fill`. The labels begin
     at 1, and no pixel is background.
 
@@ -77,7 +77,7 @@ def components(image: Image | Buffer) -> tuple[int, Image]:
 
 def bounding_box(image: Image | Buffer, value: Pixel) -> Window | None:
     """The least window that has every pixel with the bits of `value`, or None where there is no such
-    pixel. With a label of `components` it is the box around a region.
+    pixel. With a label of `components` it is the box around its component.
 
     >>> bounding_box(Image(bytes([0, 9, 0, 9]), 2, 2), 9)
     Window(left=1, top=0, width=1, height=2)
@@ -96,7 +96,7 @@ def _of_cells(image: Image) -> Image:
     """The image, if each of its pixels is one cell of the library."""
     if image._pixels.step != 1:
         instead = "add a fourth number to each pixel, or take one channel by Image.copy_of(numpy.asarray(image)[..., 0])"
-        raise TypeError(f"regions are of pixels of 1, 2, 4 or 8 bytes at a multiple of that, and pixels are {image._pixels!r}: {instead}")
+        raise TypeError(f"connected components are of pixels of 1, 2, 4 or 8 bytes at a multiple of that, and pixels are {image._pixels!r}: {instead}")
     return image
 
 

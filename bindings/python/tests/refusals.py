@@ -125,7 +125,7 @@ def of_pixels():
     says(TypeError, "a blur is of unsigned numbers of one byte, 'B', not of format '<d'", reals.blur, reals.whole, 2)
     says(TypeError, "for reading alone: copy() makes", fixed.blur, fixed.whole, 2)
     for call, words in ((imgref.flood_fill, ((0, 0), 1)), (imgref.components, ()), (imgref.bounding_box, (0,))):
-        says(TypeError, "regions are of pixels of 1, 2, 4 or 8 bytes at a multiple of that, and pixels are 3 numbers of format 'B'", call, colours, *words)
+        says(TypeError, "connected components are of pixels of 1, 2, 4 or 8 bytes at a multiple of that, and pixels are 3 numbers of format 'B'", call, colours, *words)
     for call, words in ((imgref.histogram, "a histogram has a count for each value"), (imgref.equalize, "bytes are spread over 0 to 255"), (imgref.integral, "bytes are summed")):
         says(TypeError, f"{words}, and pixels are 3 numbers of format 'B': take one channel by Image.copy_of", call, colours)
     check("nothing has changed", frame == bytes(range(12)) and not any(colours.tobytes()))

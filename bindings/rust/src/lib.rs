@@ -65,7 +65,7 @@ impl fmt::Display for Refused {
             Self::NoTile => "no such tile",
             Self::NoTurn => "no such turn",
             Self::TooLarge => "a sum might not fit",
-            Self::NoRoom => "the room has too few numbers",
+            Self::NoRoom => "the work buffer has too few numbers",
         })
     }
 }

@@ -128,7 +128,7 @@ impl<P: Pixel> Cells<P> {
 pub(crate) struct Single<P>(P);
 
 impl<P: Pixel> Single<P> {
-    pub(crate) const TESTED: () = assert!(Cells::<P>::EACH == 1, "regions are of pixels of one cell");
+    pub(crate) const TESTED: () = assert!(Cells::<P>::EACH == 1, "connected pixels have one cell");
 
     pub(crate) fn cell(pixel: P) -> P::Cell {
         let _ = Self::TESTED;

@@ -1,4 +1,4 @@
-//! Values, sums and regions of the pixels of an image.
+//! Values, sums and connected components of the pixels of an image.
 
 use crate::calls::{imgref_u16_histogram, imgref_u8_equalize, imgref_u8_histogram, imgref_u8_integral};
 use crate::images::{calls_on, cells_of, cells_of_mut};
@@ -72,7 +72,7 @@ impl<Container: Buffer<Pixel = u16>> Img<Container> {
 
 // (a pixel of several cells doesn't compile)
 impl<Container: Buffer> Img<Container> {
-    /// The regions of connected pixels: the label of each pixel, and how many regions there are. Two
+    /// The connected components: the label of each pixel, and how many components there are. Two
     /// pixels have one label exactly if a path leads from one to the other, over sides and over pixels
     /// of the same bytes. The labels begin at 1. A pixel has one cell. Allocates a number for each place.
     ///
@@ -103,7 +103,7 @@ impl<Container: Buffer> Img<Container> {
     }
 
     /// The least window that has every pixel with these bytes, or `None` where there is no such pixel.
-    /// With a label it is the box around a region. A pixel has one cell.
+    /// With a label it is the box around its component. A pixel has one cell.
     ///
     /// # Errors
     ///

@@ -427,7 +427,7 @@ fn blurs_colours_and_refuses() {
     assert_eq!(none.blur(none.whole(), 3), Ok(()));
 }
 
-// Three bytes next to one another are pixels of their own: regions and values mix their channels. Four bytes may be one pixel.
+// Three bytes next to one another are pixels of their own: components and values mix their channels. Four bytes may be one pixel.
 #[test]
 fn mixes_channels_of_single_bytes() {
     let mut image = ImgVec::new(vec![200u8, 0, 7, 7, 0, 200], 6, 1).unwrap();
