@@ -71,13 +71,20 @@ def by_plain(cases, place):
 
 
 def by_terminal(cases, place):
-    """On a terminal it asks before it replaces, and shows one line of progress."""
+    """On a terminal it asks before it replaces, and shows the progress of both passes in one line."""
     folder = place.sub("terminal")
     (folder / "out.mp4").write_text("before")
+    # (each frame waits a moment, before the detector and before imgref_frames)
+    relay = f"{sys.executable} -c 'import sys, time; [(sys.stdout.buffer.write(it), sys.stdout.flush(), time.sleep(0.1)) for it in iter(lambda: sys.stdin.buffer.read(23046), bytes())]'"
+    slow = folder / "slow"
+    slow.mkdir()
+    (slow / "imgref_frames").write_text(f'#!/bin/sh\ncase "$*" in *--report*) {relay} | {place.tools}/imgref_frames "$@" ;; *) exec {place.tools}/imgref_frames "$@" ;; esac\n')
+    (slow / "imgref_frames").chmod(0o755)
+    words = place.words(["in.mp4", "out.mp4", "--sheet", "0", "--detector", f"{relay} | {place.detector}"], fake=False)
 
     def typed(reply):
         user, other = pty.openpty()
-        done = subprocess.Popen(place.words(["in.mp4", "out.mp4"]), cwd=folder, env=place.env, stdin=other, stdout=other, stderr=other)
+        done = subprocess.Popen(words, cwd=folder, env=place.env | {"PATH": f"{slow}:{place.env['PATH']}"}, stdin=other, stdout=other, stderr=other)
         os.close(other)
         os.write(user, reply)
         said = b""
@@ -93,6 +100,8 @@ def by_terminal(cases, place):
     cases.count("on a terminal it asks, and no leaves the file", status == 1 and "Replace?" in said and (folder / "out.mp4").read_text() == "before", said)
     status, said = typed(b"y\n")
     cases.count("and yes replaces it", status == 0 and is_hidden(folder, "out.mp4"), said)
+    for label, more in (("detecting", r", [\d.]+ a second, \d+ s left"), ("covering", r", [\d.]+ a second")):
+        cases.count(f"while {label} one line says how many frames are done of how many", re.search(rf"\r\S*{label}: \d+ of {FRAMES} frames{more}", said), said)
 
 
 def by_names(cases, place):
