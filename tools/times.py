@@ -16,7 +16,7 @@ processors were busy meanwhile.
 
 With --modules nothing is proved: it reads when the last proof of each crate ended each module. It prints the longest modules, and
 the sums by kind: `Proof` is what tactics take at goals without an answer, `Answers` what written answers take, and `Lts` grows
-with the code alone. Each time runs from the module before, so it is exact only for proofs by one job.
+with the code alone. Each time runs from the module before, so it is exact only for proofs by one job, and from nothing.
 """
 import argparse
 import importlib.machinery
