@@ -8,9 +8,9 @@
 
 ghost use Rattle.std.specs.Prelude.{◌≡◌};
 
-use row_mover::{join_rows, move_pixels};
 use image_ops::{are_equal, copy_pixels, fill_pixels, joined_clones};
 use image_shape::{Shape, Window};
+use row_mover::{join_rows, move_pixels};
 use std::alloc::{AllocError, AllocFailed, Global};
 use std::process::ExitCode;
 use std::time::Instant;

@@ -15,9 +15,9 @@ ghost use Rattle.image_planes.specs.Scratch.{has_room, is_blur};
 
 use image_flips::{flip_rows, flip_window_columns};
 use image_means::{SampleBytes, blur_samples, mean_samples};
-use row_mover::move_pixels;
 use image_ops::{mosaic_window_by, repeat_window};
 use image_shape::{Shape, Window};
+use row_mover::move_pixels;
 
 /// The bytes of a pixel. Where a pixel has fewer, the others are ignored.
 pub type Value = [u8; 8];
@@ -117,7 +117,7 @@ fn bytes_for(size: usize, bytes: SampleBytes) -> SampleBytes
     }
 }
 
-/// Whether a change is a blur, which needs room.
+/// Whether a change is a blur, which needs work buffers.
 pub(crate) fn is_blur(change: Change<Value>) -> bool
     ensures { result ≡ is_blur change }
 {

@@ -39,7 +39,7 @@ fn change_each(number: u64, cells: &mut [u8], planes: &[Plane], copy: &mut [u8],
 }
 
 /// Applies the steps for the frame of this number to each of its planes. The cells are those of the
-/// planes, one after the other. Blurs use the room.
+/// planes, one after the other. Blurs use the work buffers.
 pub fn change_planes(number: u64, cells: &mut [u8], planes: &[Plane], scratch: &mut Scratch)
     requires cells { jobs_len (map job_of planes.now) ≤ length cells.old }
     requires scratch { HasRoom (map job_of planes.now) scratch.old }

@@ -1,4 +1,4 @@
-//! The room that blurs need besides the planes.
+//! The work buffers that blurs need besides the planes.
 
 ghost use Rattle.std.specs.Prelude.{◌≡◌, ◌≤◌, length, map, vec_capacity, IfOk, IsOk};
 ghost use Rattle.image_planes.specs.Changes.{as_usize};
@@ -52,7 +52,7 @@ impl Scratch {
     // This names the type itself.
     ghost use Rattle.image_planes.specs.Scratch.{room_len};
 
-    /// Exactly the room for the blurs of these planes. Without a blur it takes no memory.
+    /// Exactly the work buffers for the blurs of these planes. Without a blur it takes no memory.
     pub fn new(alloc: Global, planes: &[Plane]) -> Result<Scratch, AllocError>
         ensures room { IfOk result (HasRoom (map job_of planes.now)) }
         ensures bytes { IfOk result (λ s. room_len s ≡ scratch_len (map job_of planes.now)) }

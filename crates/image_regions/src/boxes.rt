@@ -1,4 +1,4 @@
-//! The box around the places with one value, and the size of a region.
+//! The box around the places with one value, and the size of a connected component.
 
 ghost use Rattle.std.specs.Prelude.{◌≡◌, ◌==◌, ◌<◌, ◌+◌, ◌^◌, min, max, MatchOption, IfSome};
 ghost use Rattle.std.specs.List.{count_by};
@@ -36,7 +36,7 @@ impl Sides {
 }
 
 /// The least window that has every place with a value, or `None` where no place has it. With a
-/// label it is the box around a region.
+/// label it is the box around its component.
 ///
 /// # Requires
 ///
@@ -72,7 +72,7 @@ pub fn bounding_box<T: Copy + PartialEq>(image: ImgRef<'_, T>, value: T) -> Opti
     Some(Window::new(sides.left, sides.top, width, height))
 }
 
-/// How many places have a label: the area of a region, in pixels.
+/// How many places have a label: the area of a component, in pixels.
 ///
 /// # Requires
 ///

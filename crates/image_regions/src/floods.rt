@@ -19,8 +19,8 @@ struct Fill<T> {
 
 // A place that shows the seed gets the value, and is pending from then on: the places beside it have
 // to be looked at. So a place is pending at most once. Returns how many places are. Where another
-// process changes the pixels meanwhile, a place may be pending again and again: the test of the room
-// is for that.
+// process changes the pixels meanwhile, a place may be pending again and again: the test of the work
+// buffer is for that.
 #[tactic(auto, using(image_model::proofs::Laws::reads, image_model::proofs::Laws::writes))]
 fn fill_one<T: Copy + PartialEq>(
     fill: &Fill<T>,
@@ -118,11 +118,11 @@ fn fill_from<T: Copy + PartialEq>(
 
 /// Gives `value` to column `x` of row `y`, and to each place that is connected with it. A path
 /// leads there over sides, and over places that show the same pixel. The image is cells in a shape,
-/// and the padding stays. `room` has a number for each place: what it has then means nothing.
+/// and the padding stays. The work buffer `room` has a number for each place. What it has then is lost.
 ///
 /// # Requires
 ///
-/// The cells fit (`Shape::fits`), `x` is below the width and `y` below the height. The room has as
+/// The cells fit (`Shape::fits`), `x` is below the width and `y` below the height. The buffer has as
 /// many numbers as there are places: compare its length. Two pixels are equal by `==` only if they
 /// are the same: compare the fields of a struct, and no floats.
 pub fn flood_fill_in<T: Copy + PartialEq>(
@@ -152,7 +152,7 @@ pub fn flood_fill_in<T: Copy + PartialEq>(
 }
 
 /// Gives `value` to column `x` of row `y`, and to each place that is connected with it, as
-/// `flood_fill_in` does. The room is allocated.
+/// `flood_fill_in` does. The work buffer is allocated.
 ///
 /// # Requires
 ///

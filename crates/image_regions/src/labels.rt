@@ -1,4 +1,4 @@
-//! Labels of connected regions.
+//! Labels of connected components.
 
 ghost use Rattle.std.specs.Prelude.{◌≡◌, ◌≢◌, ◌<◌, ◌≤◌, ◌+◌, ◌*◌, ℕ, List, Some, true, false, IfOk, IsOk, length};
 ghost use Rattle.image_model.specs.Regions.{HasRegion, IsLabelStep, Labelled};
@@ -11,17 +11,17 @@ use crate::pixels::{at, put};
 use imgref::{ImgRef, ImgVec, Shape, fill_pixels};
 use std::alloc::{AllocError, Global};
 
-/// The regions of an image: the label of each place, and how many regions there are.
+/// The connected components of an image: the label of each place, and how many components there are.
 #[derive(Drop)]
 pub struct Regions {
     /// The labels, from 1 to `count`.
     pub labels: ImgVec<u64>,
-    /// The number of regions.
+    /// The number of components.
     pub count: u64,
 }
 
-// The image in which a region is searched for, and the shape of the labels. The region's places show
-// the seed, and get the label.
+// The image in which a component is searched for, and the shape of the labels. Its places show the
+// seed, and get the label.
 #[derive(Clone, Copy)]
 struct Search<'a, T> {
     image: ImgRef<'a, T>,
@@ -170,7 +170,7 @@ fn label_run<T: Copy + PartialEq>(
 
 // Looks at the places of a run: the run of each open one gets the label. Returns how many runs are
 // pending. At least one place gets the label for each, whatever another process does to the pixels:
-// so the labels bound the room.
+// so the labels bound the work buffer.
 fn look_along<T: Copy + PartialEq>(
     search: &Search<'_, T>,
     labels: &mut [u64],
@@ -226,7 +226,7 @@ fn spread_run<T: Copy + PartialEq>(
     look_along(search, labels, room, count, Run { y: y + 1, from, to })
 }
 
-// Gives a label to the region of an open place, where no place has this label.
+// Gives a label to the component of an open place, where no place has this label.
 fn label_region<T: Copy + PartialEq>(
     search: &Search<'_, T>,
     labels: &mut [u64],
@@ -255,7 +255,7 @@ fn label_region<T: Copy + PartialEq>(
     }
 }
 
-// Looks at a place: where it has no label, its region gets the next one.
+// Looks at a place: where it has no label, its component gets the next one.
 #[tactic(auto, using(image_model::proofs::Laws::reads))]
 fn label_place<T: Copy + PartialEq>(
     image: ImgRef<'_, T>,
@@ -294,7 +294,7 @@ fn label_place<T: Copy + PartialEq>(
     regions + 1
 }
 
-// Gives each region a label, where no place has one. Returns how many regions there are.
+// Gives each component a label, where no place has one. Returns how many components there are.
 #[tactic(auto, using(image_model::proofs::Regions::labelling))]
 fn label_all<T: Copy + PartialEq>(
     image: ImgRef<'_, T>,
@@ -320,17 +320,17 @@ fn label_all<T: Copy + PartialEq>(
     regions
 }
 
-/// The regions of an image, in cells of the caller's. Each place of `labels` gets a label, and two
+/// The connected components of an image, in cells of the caller's. Each place gets a label, and two
 /// places have the same label exactly if they are connected. A path then leads from one to the
 /// other over sides (4-connected), and over places that show the same pixel. The labels are 1, 2
-/// and so on up to the number of regions, which is returned. Which region has which label isn't
-/// promised. No pixel value is background. `room` has a number for each place: what it has then
-/// means nothing.
+/// and so on up to the number of components, which is returned. Which one has which label isn't
+/// promised. No pixel value is background. The work buffer `room` has a number for each place: what
+/// it has then means nothing.
 ///
 /// # Requires
 ///
 /// The image fits (`is_valid`), and so do the labels (`Shape::fits`). The sizes are equal, and the
-/// room has as many numbers as there are places: compare its length. Two pixels are equal by `==`
+/// buffer has as many numbers as there are places: compare its length. Two pixels are equal by `==`
 /// only if they are the same: compare the fields of a struct, and no floats.
 pub fn components_into<T: Copy + PartialEq>(
     image: ImgRef<'_, T>,
@@ -351,7 +351,7 @@ pub fn components_into<T: Copy + PartialEq>(
     label_all(image, labels, shape, room)
 }
 
-/// The regions of an image, as `components_into` labels them. The labels and the room are
+/// The components of an image, as `components_into` labels them. The labels and the work buffer are
 /// allocated. The labels have no padding: their stride is the width, or 1 for width 0.
 ///
 /// # Requires

@@ -1,5 +1,5 @@
-//! Values, sums and regions of images: histograms, equalization, integral images, flood fills, and
-//! labels of connected regions with their boxes and their sizes. Each call takes time in proportion
+//! Values, sums and connected components of images: histograms, equalization, integral images, flood
+//! fills, and labels of components with their boxes and their sizes. Each call takes time in proportion
 //! to the pixels. Memory is allocated by the calls that take `alloc`, and where there is none they
 //! return `AllocError`.
 //!

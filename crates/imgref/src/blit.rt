@@ -12,9 +12,9 @@ ghost use Rattle.imgref.specs.Image.{width_of, height_of, grid_by, layout_by, On
 use crate::containers::AsMutSlice;
 use crate::img::{Img, ImgRef};
 use image_flips::swap_rows;
-use row_mover::move_pixels;
 use image_ops::{copy_pixels, copy_window};
 use image_shape::Window;
+use row_mover::move_pixels;
 
 impl<C: AsMutSlice> Img<C> {
     /// Every pixel becomes the pixel of `source` at its place; the padding stays. The two strides

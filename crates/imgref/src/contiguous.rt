@@ -13,8 +13,8 @@ ghost use Rattle.imgref.specs.Image.{buf_of, width_of, height_of, stride_of, vec
 ghost use Rattle.imgref.specs.Contiguous.{Rests, IsPackedFrom, vec_image};
 
 use crate::img::{ImgRef, ImgVec};
-use row_mover::pack;
 use image_ops::contiguous;
+use row_mover::pack;
 use std::alloc::{AllocError, Global};
 use std::borrow::CowSlice;
 

@@ -1,6 +1,6 @@
 //! Blurs: each pixel of a window becomes the mean of the box around it.
 //!
-//! They are there for cells of one byte. The caller lends the room for a copy and for sums.
+//! They are there for cells of one byte. The caller lends work buffers for a copy and for sums.
 
 ghost use Rattle.std.specs.Prelude.{◌≡◌, ◌*◌, ◌%◌, ◌<◌, ◌≤◌, ◌^◌, length};
 ghost use Rattle.image_model.specs.Grid.{patch};
@@ -91,8 +91,8 @@ fn blur(
     Status::Done
 }
 
-/// Writes how much room `imgref_u8_blur` needs for a window: so many bytes for the copy, and so many
-/// sums. Sizes and the window are counted in pixels of 1 to 4 cells, and the stride in cells.
+/// Writes how long the work buffers of `imgref_u8_blur` are for a window: so many bytes for the copy,
+/// and so many sums. Sizes and the window are counted in pixels of 1 to 4 cells, and the stride in cells.
 #[unsafe(no_mangle)]
 pub extern "C" fn imgref_blur_room(
     len: usize,
@@ -125,7 +125,7 @@ pub extern "C" fn imgref_blur_room(
 /// half goes up. A pixel has 1 to 4 cells, next to one another in a row, and each cell is the mean of
 /// such cells. The box has `across` pixels on the left and on the right, and `down` above and below:
 /// both are below 2^15. What is outside the window doesn't count. Sizes, the window and the box are
-/// counted in pixels, and the stride in cells. `imgref_blur_room` says how much room a window needs.
+/// counted in pixels, and the stride in cells. `imgref_blur_room` says what it needs besides.
 #[unsafe(no_mangle)]
 pub extern "C" fn imgref_u8_blur(
     cells: &mut [u8],

@@ -39,7 +39,7 @@ pub(crate) fn flood_fill<T: Copy + PartialEq>(
     Status::Done
 }
 
-// Each place gets the label of its region, and `count` the number of regions.
+// Each place gets the label of its component, and `count` the number of these.
 pub(crate) fn components<T: Copy + PartialEq>(
     cells: &[T],
     claimed: ClaimedShape,

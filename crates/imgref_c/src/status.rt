@@ -21,7 +21,7 @@ pub(crate) enum Status {
     NoTurn,
     /// A sum might not fit its number.
     TooLarge,
-    /// The room has fewer numbers than there are places.
+    /// The work buffer has fewer numbers than there are places.
     NoRoom,
 }
 

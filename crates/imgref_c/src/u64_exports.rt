@@ -390,7 +390,8 @@ pub extern "C" fn imgref_u64_pack(
 }
 
 /// The pixel in column `x` of row `y` becomes `value`, and so does each that is connected with it. A path
-/// leads there over sides, and over places that show the same pixel. `room` has a number for each place.
+/// leads there over sides, and over places that show the same pixel. The work buffer `room` has a number
+/// for each place.
 #[unsafe(no_mangle)]
 pub extern "C" fn imgref_u64_flood_fill(
     cells: &mut [u64],
@@ -412,10 +413,10 @@ pub extern "C" fn imgref_u64_flood_fill(
     regions::flood_fill(cells, claimed, (x, y), value, room).code()
 }
 
-/// Each of `labels` becomes the label of its region: 1, 2 and so on up to the number of regions, which
+/// Each of `labels` becomes the label of its component: 1, 2 and so on up to the number of these, which
 /// goes to `count`. They are an image of the size of `cells`, at a stride of their own. Two places have
-/// one label exactly if they are connected: over sides, and over places that show the same pixel. `room`
-/// has a number for each place.
+/// one label exactly if they are connected: over sides, and over places that show the same pixel. The
+/// work buffer `room` has a number for each place.
 #[unsafe(no_mangle)]
 pub extern "C" fn imgref_u64_components(
     cells: &[u64],

@@ -5,9 +5,9 @@ ghost use Rattle.imgref_c.specs.Words.{as_window, mosaic_of, mosaic_status_of, m
 
 use crate::images::ClaimedShape;
 use crate::status::Status;
-use row_mover::move_pixels;
 use image_ops::mosaic_window;
 use image_shape::Window;
+use row_mover::move_pixels;
 
 // Every pixel of the window becomes `value`.
 pub(crate) fn fill_window<T: Copy>(

@@ -1,4 +1,4 @@
-//! Whether two places are connected, by the labels of their regions.
+//! Whether two places are connected, by the labels of their components.
 
 ghost use Rattle.std.specs.Prelude.{◌↔◌, ◌<◌, IfOk, IsTrue};
 ghost use Rattle.imgref.specs.Words.{AreRegions, Fits, IsConnected, height_of, ref_grid, ref_layout, vec_grid, vec_layout, width_of};
