@@ -13,7 +13,6 @@ mod words;
 
 pub use apart::{FileId, Files, Role, are_one, reads_input_twice, shared_file};
 pub use asked::edits_asked;
-pub use boxes::with_boxes;
 pub use fault::RunFault;
 pub use late::{Hiding, late_pairs};
 pub use options::{Misread, Options, read_options};
