@@ -1,5 +1,6 @@
 pub mod BesideBoxes
 pub mod BoxCovers
+pub mod BoxFrames
 pub mod FirstUncovered
 pub mod KeptShapes
 pub mod LatePairs

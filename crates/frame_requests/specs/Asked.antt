@@ -45,7 +45,7 @@ AreAsked style (Some boxes) hold file words e = AreAfterBoxes style boxes hold f
 pub record BoxesBeforeAreRefused (style : BoxStyle) (boxes : List ℕ) (hold : Option ℕ) (file : Option (List ℕ)) (words : List (List ℕ)) (why : Refusal) : Type 0 where
   pub others : Edits
   pub are : AreNamed file words true others
-  pub refused : BoxesAreRefused style boxes hold others why
+  pub refused : BoxesAreRefused style boxes hold why
 
 -- there is no memory for edits beside a list of boxes, whose lines are boxes
 abbrev pub AreBoxesWhere : Refusal → List ℕ → Type 0

@@ -7,9 +7,8 @@ use Rattle.frame_edits.specs.Edits.{Edits}
 use Rattle.frame_edits.specs.Holds.{AreHeld}
 use Rattle.frame_edits.specs.declared.box_covers.BoxStyle.{BoxStyle}
 use Rattle.frame_edits.specs.declared.words.Edit.{Edit}
-use Rattle.frame_requests.specs.Words.{IsFirstEmpty}
 use Rattle.frame_requests.specs.declared.words.Refusal.{Refusal}
-use Rattle.frame_requests.specs.declared.words.Refusal.TheVariants.{NoBoxes, EmptyBoxes, NoFrame, Memory}
+use Rattle.frame_requests.specs.declared.words.Refusal.TheVariants.{NoBoxes, EmptyBoxes, Memory}
 
 -- the covers of all boxes of a text, each in its own frame, or held for so many
 abbrev pub CoverBoxes : BoxStyle → List ℕ → Option ℕ → List Edit → Type 0
@@ -24,16 +23,9 @@ pub record BeginsWithBoxes (style : BoxStyle) (text : List ℕ) (hold : Option �
   pub steps : new.steps ≡ covers ++ others.steps
   pub framing : new.framing ≡ others.framing
 
--- the edit of this number, counted with the covers before the edits, is the first whose range has no frame
-pub record HasEmptyRange (style : BoxStyle) (text : List ℕ) (hold : Option ℕ) (others : Edits) (at : ℕ) : Type 0 where
-  pub covers : List Edit
-  pub are : CoverBoxes style text hold covers
-  pub first : IsFirstEmpty (covers ++ others.steps) at
-
--- why boxes and the edits after them are refused: a line is no box, there is no box, a range has no frame, or there was no memory. Memory is needed only where there is a box, and a bad line is told whatever memory there is
-abbrev pub BoxesAreRefused : BoxStyle → List ℕ → Option ℕ → Edits → Refusal → Type 0
-BoxesAreRefused style text hold others NoBoxes = each_box text ≡ None
-BoxesAreRefused style text hold others EmptyBoxes = CoverBoxes style text hold []
-BoxesAreRefused style text hold others (NoFrame at) = HasEmptyRange style text hold others at
-BoxesAreRefused style text hold others Memory = HasBoxes text
-BoxesAreRefused style text hold others _ = ⊥
+-- why the boxes before edits are refused: a line is no box, there is no box, or there was no memory. Memory is needed only where there is a box, and a bad line is told whatever memory there is
+abbrev pub BoxesAreRefused : BoxStyle → List ℕ → Option ℕ → Refusal → Type 0
+BoxesAreRefused style text hold NoBoxes = each_box text ≡ None
+BoxesAreRefused style text hold EmptyBoxes = CoverBoxes style text hold []
+BoxesAreRefused style text hold Memory = HasBoxes text
+BoxesAreRefused style text hold _ = ⊥

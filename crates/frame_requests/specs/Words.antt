@@ -29,16 +29,20 @@ has_span (Frames first end) = nat_lt first end
 has_span (Times from None) = true
 has_span (Times from (Some to)) = nat_lt from to
 
+-- the range of each edit begins before its end
+abbrev pub HaveFrames : List Edit → Type 0
+HaveFrames edits = All (λ s. IsTrue (has_span s.range)) edits
+
 -- there is an edit, and the range of each begins before its end
 pub record AreUsable (e : Edits) : Type 0 where
   pub some : is_nil e.steps && is_none e.framing ≡ false
-  pub ranges : All (λ s. IsTrue (has_span s.range)) e.steps
+  pub ranges : HaveFrames e.steps
 
 -- the edit of this number is the first whose range has no frame
 pub record IsFirstEmpty (edits : List Edit) (at : ℕ) : Type 0 where
   pub there : at < length edits
   pub empty : IfSome (slice_get edits at) (λ s. has_span s.range ≡ false)
-  pub before : All (λ s. IsTrue (has_span s.range)) (take at edits)
+  pub before : HaveFrames (take at edits)
 
 -- why edits are refused: there is none, or the range of this one has no frame
 abbrev pub AreRefused : Edits → Refusal → Type 0

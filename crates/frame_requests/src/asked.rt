@@ -4,7 +4,7 @@ ghost use Rattle.std.specs.Prelude.{◌≡◌, IfErr, IfOk, Some, false, map};
 ghost use Rattle.std.specs.Option.{option_map};
 ghost use Rattle.frame_edits.specs.Lists.{plain};
 ghost use Rattle.frame_requests.specs.Asked.{AreAfterBoxes, AreAsked, AreNamed, AreSaid, AskedIsRefused, NamedAreRefused, SaidAreRefused, told};
-ghost use Rattle.frame_requests.specs.Words.{AreUsable};
+ghost use Rattle.frame_requests.specs.Words.{AreUsable, HaveFrames};
 
 use crate::boxes::with_boxes;
 use crate::words::{Refusal, edits_of_lines, edits_of_words};
@@ -15,6 +15,7 @@ use std::alloc::Global;
 // The edits of words. Beside a list of boxes there may be no word.
 fn said_edits(alloc: Global, words: &[&[u8]], boxed: bool) -> Result<Edits, Refusal>
     ensures are { IfOk result (λ made. AreSaid (map (λ w. w.now) words.now) boxed (plain made)) }
+    ensures frames { IfOk result (λ made. HaveFrames made.steps.items) }
     ensures usable { boxed ≡ false → IfOk result (λ made. AreUsable (plain made)) }
     ensures refused { IfErr result (SaidAreRefused (map (λ w. w.now) words.now) boxed) }
 {
@@ -33,6 +34,7 @@ fn named_edits(
 ) -> Result<Edits, Refusal>
     ensures are { IfOk result (λ made. AreNamed (option_map (λ text. text.now) file.entry)
         (map (λ w. w.now) words.now) boxed (plain made)) }
+    ensures frames { IfOk result (λ made. HaveFrames made.steps.items) }
     ensures usable { boxed ≡ false → IfOk result (λ made. AreUsable (plain made)) }
     ensures refused { IfErr result (NamedAreRefused (option_map (λ text. text.now) file.entry)
         (map (λ w. w.now) words.now) boxed) }

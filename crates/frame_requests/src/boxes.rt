@@ -3,10 +3,10 @@
 ghost use Rattle.std.specs.Prelude.{◌≡◌, IfErr, IfOk};
 ghost use Rattle.frame_requests.specs.Boxes.{BeginsWithBoxes, BoxesAreRefused, CoverBoxes};
 ghost use Rattle.frame_lists.specs.Boxes.{HasBoxes, each_box};
-ghost use Rattle.frame_requests.specs.Words.{AreUsable};
+ghost use Rattle.frame_requests.specs.Words.{AreUsable, HaveFrames};
 ghost use Rattle.frame_edits.specs.Lists.{plain};
 
-use crate::words::{Refusal, refuse_unusable};
+use crate::words::Refusal;
 use frame_edits::{BoxStyle, Edit, Edits, read_boxes, read_held};
 use frame_lists::WordsFault;
 use std::alloc::Global;
@@ -31,22 +31,27 @@ fn covers_of(
 /// What the boxes of a tracker's list become, and after that these edits. The boxes are held for so
 /// many frames.
 ///
+/// # Requires
+///
+/// The range of each edit has a frame, as those of `edits_of_words` and `edits_of_lines` have.
+///
 /// # Errors
 ///
-/// `NoBoxes` where a line is no box, whatever memory there is. `EmptyBoxes` where there is none, and
-/// `NoFrame` where the range of an edit has no frame. `Memory` only where there is a box.
-#[tactic(auto, using(crate::proofs::BoxCovers::covers_have_boxes))]
-pub fn with_boxes(
+/// `NoBoxes` where a line is no box, whatever memory there is. `EmptyBoxes` where there is none.
+/// `Memory` only where there is a box.
+#[tactic(auto, using(crate::proofs::BoxCovers::covers_have_boxes, crate::proofs::BoxFrames::covers_have_frames))]
+pub(crate) fn with_boxes(
     alloc: Global,
     text: &[u8],
     style: BoxStyle,
     hold: Option<usize>,
     edits: &Edits,
 ) -> Result<Edits, Refusal>
+    requires frames { HaveFrames edits.now.steps.items }
     ensures begins { IfOk result
         (λ made. BeginsWithBoxes style text.now hold (plain edits.now) (plain made)) }
     ensures usable { IfOk result (λ made. AreUsable (plain made)) }
-    ensures refused { IfErr result (BoxesAreRefused style text.now hold (plain edits.now)) }
+    ensures refused { IfErr result (BoxesAreRefused style text.now hold) }
 {
     let mut steps = match covers_of(alloc, text, style, hold) {
         Ok(covers) => covers,
@@ -59,12 +64,8 @@ pub fn with_boxes(
     if steps.extend_from_slice(&edits.steps).is_err() {
         return Err(Refusal::Memory);
     }
-    let made = Edits {
+    Ok(Edits {
         steps,
         framing: edits.framing,
-    };
-    match refuse_unusable(&made) {
-        Ok(()) => Ok(made),
-        Err(refusal) => Err(refusal),
-    }
+    })
 }

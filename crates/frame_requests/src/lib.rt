@@ -13,9 +13,8 @@ mod words;
 
 pub use apart::{FileId, Files, Role, are_one, reads_input_twice, shared_file};
 pub use asked::edits_asked;
-pub use boxes::with_boxes;
 pub use fault::RunFault;
 pub use late::{Hiding, late_pairs};
 pub use options::{Misread, Options, read_options};
-pub use seen::{Seen, Shape, Stretch, Uncovered};
+pub use seen::{Seen, Shape, Stretch, Uncovered, is_same_picture};
 pub use words::{Refusal, edits_of_lines, edits_of_words, has_blur, words_of};

@@ -1,6 +1,6 @@
 //! What was found of the input of a run.
 
-ghost use Rattle.std.specs.Prelude.{◌≡◌, ◌≤◌, ◌<◌, ℕ, None, Some, IfSome, List, [], ◌∷◌, reverse, true, false};
+ghost use Rattle.std.specs.Prelude.{◌≡◌, ◌≢◌, ◌≤◌, ◌<◌, ℕ, None, Some, IfSome, List, [], ◌∷◌, reverse, true, false};
 ghost use Rattle.std.specs.List.{slice_get};
 ghost use Rattle.std.specs.Option.{option_map};
 
@@ -47,9 +47,10 @@ fn is_same_rate(a: Option<Rate>, b: Option<Rate>) -> bool
     }
 }
 
-// Whether two pictures have the same size and kind.
-fn is_same_picture(a: Picture, b: Picture) -> bool
-    ensures { result ≡ true → a ≡ b }
+/// Whether two pictures have the same size and kind.
+pub fn is_same_picture(a: Picture, b: Picture) -> bool
+    ensures same { result ≡ true → a ≡ b }
+    ensures other { result ≡ false → a ≢ b }
 {
     a.width == b.width && a.height == b.height && a.kind == b.kind && a.greatest == b.greatest
 }

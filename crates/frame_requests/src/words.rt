@@ -1,10 +1,10 @@
 //! The edits that the words after the program's name denote, or the lines of the file that they
 //! name.
 
-ghost use Rattle.std.specs.Prelude.{◌≡◌, IsTrue, All, IfOk, IfErr, IfSome, OnOk, Some, None, map, []};
+ghost use Rattle.std.specs.Prelude.{◌≡◌, IfOk, IfErr, IfSome, OnOk, Some, None, map, []};
 ghost use Rattle.frame_edits.specs.Edits.{edits};
 ghost use Rattle.frame_edits.specs.Lists.{with_lines, plain};
-ghost use Rattle.frame_requests.specs.Words.{AreWords, AreUsable, AreRefused, IsFirstEmpty, RefusesLines, RefusesWords, has_blur, has_span, refusal_of};
+ghost use Rattle.frame_requests.specs.Words.{AreWords, AreUsable, AreRefused, HaveFrames, IsFirstEmpty, RefusesLines, RefusesWords, has_blur, has_span, refusal_of};
 ghost use Rattle.text_model.specs.Parts.{parts_of};
 
 use crate::options::Misread;
@@ -87,7 +87,7 @@ fn has_span(range: Range) -> bool
 // The first edit whose range has no frame.
 fn find_no_frame(edits: &[Edit]) -> Option<usize>
     ensures first { IfSome result (IsFirstEmpty edits.now) }
-    ensures none { result ≡ None → All (λ s. IsTrue (has_span s.range)) edits.now }
+    ensures none { result ≡ None → HaveFrames edits.now }
 {
     for at in 0..edits.len() {
         if !has_span(edits[at].range) {
@@ -98,7 +98,7 @@ fn find_no_frame(edits: &[Edit]) -> Option<usize>
 }
 
 // Refuses a list with no edit, and a range with no frame: both would show what was to be covered.
-pub(crate) fn refuse_unusable(edits: &Edits) -> Result<(), Refusal>
+fn refuse_unusable(edits: &Edits) -> Result<(), Refusal>
     ensures usable { OnOk result (AreUsable (plain edits.now)) }
     ensures refused { IfErr result (AreRefused (plain edits.now)) }
 {

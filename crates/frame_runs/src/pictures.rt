@@ -19,7 +19,7 @@ use crate::request::{Request, fault_of_plan, is_over};
 use devices::{Counted, read_byte};
 use frame_formats::Plan;
 use frame_heads::{Picture, Scan, heads_end_themselves};
-use frame_requests::{RunFault, Seen, Shape};
+use frame_requests::{RunFault, Seen, Shape, is_same_picture};
 use image_planes::Scratch;
 use std::alloc::{AllocError, Global};
 use std::io::{Read, Write};
@@ -96,14 +96,6 @@ fn make_room(
     grow(alloc, other, other_room)
 }
 
-// Whether two pictures have the same size and kind.
-fn is_same(a: Picture, b: Picture) -> bool
-    ensures same { result ≡ true → a ≡ b }
-    ensures other { result ≡ false → a ≢ b }
-{
-    a.width == b.width && a.height == b.height && a.kind == b.kind && a.greatest == b.greatest
-}
-
 // A new plan for the picture of this number, with room for it.
 #[tactic(auto, using(crate::proofs::Starts::plan_needs, crate::proofs::Starts::picture_starts))]
 fn make_plan(
@@ -172,7 +164,7 @@ fn plan_for(
         (NeedsMemory (edits_of request.entry) (kept_picture kept) picture) }
 {
     if let Some(before) = kept {
-        if is_same(before.picture, picture) {
+        if is_same_picture(before.picture, picture) {
             return Ok(before);
         }
     }
