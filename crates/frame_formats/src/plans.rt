@@ -263,7 +263,7 @@ impl Plan {
         Plan::new(picture_head(alloc, resized)?, planes, Some(targets))
     }
 
-    /// What is written before the first frame: a line with its line feed, or the head of a picture.
+    /// What is written before the first frame: a line with its line feed, or the header of a picture.
     pub fn head(&self) -> &[u8]
         ensures { result.now ≡ (recipe_of self.now).head }
     {

@@ -1,4 +1,4 @@
-//! The heads that are written.
+//! The headers that are written.
 
 ghost use Rattle.std.specs.Fmt.{decimal};
 ghost use Rattle.std.specs.Prelude.{◌≡◌, ◌++◌, ◌∷◌, [], OnOk, IfOk};
@@ -70,7 +70,7 @@ fn pam_head(alloc: Global, tuples: Tuples, picture: Picture) -> Result<Vec<u8>, 
     Ok(text)
 }
 
-/// The head of a picture.
+/// The header of a picture.
 pub fn picture_head(alloc: Global, picture: Picture) -> Result<Vec<u8>, AllocError>
     ensures { IfOk result (λ text. text.items ≡ head_text picture) }
 {

@@ -1,4 +1,4 @@
-//! Heads: the line with which a video begins, and the heads of pictures. How they are read and
+//! Headers: the line with which a video begins, and the headers of pictures. How they are read and
 //! written, and what they say of pixels. Nothing here reads or writes a stream.
 #![tactic(auto)]
 

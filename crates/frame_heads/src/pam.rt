@@ -1,4 +1,4 @@
-//! The lines of the head of a PAM picture, after the two bytes of its kind.
+//! The lines of the header of a PAM picture, after the two bytes of its kind.
 
 ghost use Rattle.std.specs.Prelude.{◌≡◌, Some};
 ghost use Rattle.std.specs.Option.{is_none};
@@ -42,7 +42,7 @@ pub enum Place {
     Gap,
     /// At so many bytes of the type, which is of colours or not.
     Letters(bool, usize),
-    /// At the end of the head.
+    /// At the end of the header.
     Ended,
 }
 
@@ -214,7 +214,7 @@ impl Lines {
         fields.at(Place::Kind)
     }
 
-    /// The lines with one more byte, or `None` where they begin no head.
+    /// The lines with one more byte, or `None` where they begin no header.
     pub(crate) fn push(self, byte: u8) -> Option<Lines>
         ensures { result ≡ lines_pushed self byte }
     {

@@ -1,4 +1,4 @@
-//! The words in the lines of the head of a PAM picture.
+//! The words in the lines of the header of a PAM picture.
 
 ghost use Rattle.std.specs.Prelude.{◌≡◌};
 ghost use Rattle.frame_heads.specs.PamWords.{key_text, key_of, type_text, plain_letters, goes_on, is_blank};
@@ -16,7 +16,7 @@ pub enum Key {
     Greatest,
     /// `TUPLTYPE`: what the samples are.
     Tupltype,
-    /// `ENDHDR`: the head ends.
+    /// `ENDHDR`: the header ends.
     End,
 }
 

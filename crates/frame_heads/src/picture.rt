@@ -1,4 +1,4 @@
-//! The head of a picture: its kind, its size and the greatest value of a pixel.
+//! The header of a picture: its kind, its size and the greatest value of a pixel.
 
 ghost use Rattle.std.specs.Prelude.{◌≡◌};
 ghost use Rattle.std.specs.Option.{is_some};
@@ -9,12 +9,12 @@ ghost use Rattle.frame_heads.specs.Picture.{is_white, after_white, after_digit, 
 use crate::digits::with_digit;
 use crate::pam::{Fields, Lines, Place, Tuples};
 
-/// What the samples of a pixel are, and how the head tells it.
+/// What the samples of a pixel are, and how the header tells it.
 #[derive(Clone, Copy, PartialEq, Eq)]
 pub enum Kind {
     /// One brightness (`P5`), or red, green and blue (`P6`).
     Plain { colour: bool },
-    /// The head has lines (`P7`).
+    /// The header has lines (`P7`).
     Pam(Tuples),
 }
 
@@ -28,7 +28,7 @@ pub struct Picture {
     pub greatest: u16,
 }
 
-/// What has been read of a head that isn't complete. A number is `None` before its first digit.
+/// What has been read of a header that isn't complete. A number is `None` before its first digit.
 #[derive(Clone, Copy, PartialEq, Eq)]
 pub enum Head {
     /// Nothing.
@@ -61,14 +61,14 @@ pub enum Head {
     Lines(Lines),
 }
 
-/// The result of reading bytes, one after the other, as the head of a picture.
+/// The result of reading bytes, one after the other, as the header of a picture.
 #[derive(Clone, Copy, PartialEq, Eq)]
 pub enum Scan {
-    /// The head isn't complete; the last byte may be in a comment.
+    /// The header isn't complete; the last byte may be in a comment.
     More { head: Head, comment: bool },
-    /// The bytes are the head of this picture.
+    /// The bytes are the header of this picture.
     Done(Picture),
-    /// The bytes aren't a head, and no head begins with them.
+    /// The bytes aren't a header, and no header begins with them.
     Bad,
 }
 
@@ -105,7 +105,7 @@ fn picture_in(fields: Fields) -> Option<Picture>
     })
 }
 
-// What lines are: at their end, the head of a picture or bad.
+// What lines are: at their end, the header of a picture or bad.
 fn scan_of(lines: Option<Lines>) -> Scan
     ensures { result ≡ scan_of lines }
 {
@@ -253,7 +253,7 @@ impl Scan {
     }
 
     /// The result with one more byte. The line feed that ends a comment counts as white space, and
-    /// no byte follows a complete head.
+    /// no byte follows a complete header.
     pub fn push(self, byte: u8) -> Scan
         ensures { result ≡ pushed self byte }
     {
@@ -277,7 +277,7 @@ impl Scan {
     }
 }
 
-/// No head is the beginning of another, so a reader knows where a head ends. No head begins with
+/// No header is the beginning of another, so a reader knows where a header ends. No header begins with
 /// bad bytes. What `picture_head` writes is read as its picture. A caller calls this for its
 /// clauses, which are these laws; it does nothing.
 #[tactic(auto, using(crate::proofs::HeadLaws::laws_of_heads))]

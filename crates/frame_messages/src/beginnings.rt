@@ -1,4 +1,4 @@
-//! Why an input begins with no supported video and no head of a picture, in words for standard
+//! Why an input begins with no supported video and no header of a picture, in words for standard
 //! error. Nothing here changes what is written or the status.
 
 use frame_heads::{Fields, Head, Key, Lines, Place, Scan, read_size};
@@ -104,7 +104,7 @@ fn say_no_picture(rt: &HostRuntime, kind: u8, front: &[u8]) {
     };
 }
 
-// The head before the first byte that is bad, that byte, and its place.
+// The header before the first byte that is bad, that byte, and its place.
 fn find_bad(front: &[u8]) -> Option<(Head, u8, usize)> {
     let mut scan = Scan::new();
     for at in 0..front.len() {
@@ -156,7 +156,7 @@ fn say_no_numbers(rt: &HostRuntime, front: &[u8]) {
             let _ = eprintln!(rt; "after the kind of the picture there is no white space");
         }
         None => {
-            let _ = eprintln!(rt; "the head of the picture has no end, or more than 65536 bytes");
+            let _ = eprintln!(rt; "the header of the picture has no end, or more than 65536 bytes");
         }
     }
 }
@@ -185,11 +185,11 @@ fn key_name(key: Key) -> &'static str {
 fn say_no_line(rt: &HostRuntime, lines: Lines, byte: u8, word: &[u8]) {
     let _ = match lines.place {
         _ if byte == b'\r' => eprintln!(rt;
-            "a line of the head has a carriage return, and must end with a line feed alone"
+            "a line of the header has a carriage return, and must end with a line feed alone"
         ),
         Place::Kind => eprintln!(rt; "after P7 there is no line feed"),
         Place::Number(key, Some(_)) if byte == b'\n' => {
-            eprintln!(rt; "{} occurs twice in the head", key_name(key))
+            eprintln!(rt; "{} occurs twice in the header", key_name(key))
         }
         Place::Number(key, _) => {
             eprintln!(rt;
@@ -231,7 +231,7 @@ fn say_no_value(rt: &HostRuntime, fields: Fields, key: Key, byte: u8) {
     };
 }
 
-// The fields at the end of the head name no picture.
+// The fields at the end of the header name no picture.
 fn say_no_picture_in(rt: &HostRuntime, fields: Fields) {
     let (Some(width), Some(height), Some(depth), Some(greatest), Some(_)) = (
         fields.width,
@@ -241,7 +241,7 @@ fn say_no_picture_in(rt: &HostRuntime, fields: Fields) {
         fields.tuples,
     ) else {
         let _ = eprintln!(rt;
-            "the head needs WIDTH, HEIGHT, DEPTH, MAXVAL and TUPLTYPE before ENDHDR"
+            "the header needs WIDTH, HEIGHT, DEPTH, MAXVAL and TUPLTYPE before ENDHDR"
         );
         return;
     };

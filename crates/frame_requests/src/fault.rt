@@ -8,7 +8,7 @@ use std::fmt;
 /// Why a run ended before everything was written.
 #[derive(Clone, Copy, Debug, PartialEq, Eq)]
 pub enum RunFault {
-    /// The input begins neither with the line of a supported video nor with the head of a supported
+    /// The input begins neither with the line of a supported video nor with the header of a supported
     /// picture. Nothing was written.
     Header,
     /// The edit isn't valid for this video or picture. It reaches outside a plane, doesn't fall on
@@ -18,7 +18,7 @@ pub enum RunFault {
     /// So many frames or pictures were read, and what comes after them isn't one, or no number
     /// counts one more. They were written.
     Frame(u64),
-    /// Out of memory. So many pictures were read and written, and the head of one more was read.
+    /// Out of memory. So many pictures were read and written, and the header of one more was read.
     /// For a video it is 0, and nothing was written.
     Memory(u64),
     /// The reader failed. The frames or pictures before it were written.

@@ -11,12 +11,12 @@ use frame_heads::{Format, Picture, Rate};
 use image_planes::Window;
 use std::alloc::Global;
 
-/// What a line or a head tells of frames.
+/// What a line or a header tells of frames.
 #[derive(Clone, Copy, PartialEq, Eq)]
 pub enum Shape {
     /// The line of a video, and the rate that it names.
     Video(Format, Option<Rate>),
-    /// The head of a picture.
+    /// The header of a picture.
     Picture(Picture),
 }
 
@@ -245,7 +245,7 @@ pub struct Seen {
     shape: Option<Shape>,
     // The number of the first frame after which all have this shape.
     first: u64,
-    // The number of the frame or the picture whose line or head was read last.
+    // The number of the frame or the picture whose line or header was read last.
     last: u64,
     // What is known of the frames before those of the last shape.
     known: Known,
@@ -259,7 +259,7 @@ impl Seen {
     ghost use Rattle.frame_requests.specs.declared.seen.Shape.{Shape};
     ghost use Rattle.frame_requests.specs.Seen.{HasLastShape, IsFirstUncovered, IsOtherTold, KeepsShape, Knows, NoneUncovered, SameButKnown, SameButShapes, Sees, is_told, kept_shapes, last_seen, rate_seen, shape_at, shape_seen, stretch_of};
 
-    /// No line and no head.
+    /// No line and no header.
     pub fn nothing(alloc: Global) -> Seen
         ensures shape { shape_seen result ≡ None }
         ensures last { last_seen result ≡ 0 }
@@ -326,14 +326,14 @@ impl Seen {
         }
     }
 
-    /// The line or the head that was read last.
+    /// The line or the header that was read last.
     pub fn shape(&self) -> Option<Shape>
         ensures { result ≡ shape_seen self.now }
     {
         self.shape
     }
 
-    /// The number of the picture whose head was read last. Of a video it is 0.
+    /// The number of the picture whose header was read last. Of a video it is 0.
     pub fn last(&self) -> u64
         ensures { result ≡ last_seen self.now }
     {
@@ -361,7 +361,7 @@ impl Seen {
         self.known.end(stretch, steps);
     }
 
-    /// The line of a video was read, or the head of the picture of this number.
+    /// The line of a video was read, or the header of the picture of this number.
     pub fn see(&mut self, number: u64, shape: Shape, steps: &[Edit])
         ensures shape { shape_seen self.new ≡ Some shape }
         ensures last { last_seen self.new ≡ number }

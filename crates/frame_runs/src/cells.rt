@@ -1,4 +1,4 @@
-//! The cells after a head: they are read, edited, and written after their new head.
+//! The cells after a header: they are read, edited, and written after their new header.
 
 ghost use Rattle.std.specs.Prelude.{◌≡◌, ◌+◌, ◌≤◌, ◌<◌, ◌++◌, length, take, vec_capacity, IfOk, OnOk, OnErr};
 ghost use Rattle.std.specs.Io.KnownBytes.{Appends, Consumes, IsAtEnd};
@@ -16,7 +16,7 @@ use frame_requests::RunFault;
 use image_planes::Scratch;
 use std::io::{Read, Write};
 
-// Writes a head, and cells after it.
+// Writes a header, and cells after it.
 fn write_piece<W: Write>(
     writer: &mut Counted<W>,
     head: &[u8],
@@ -35,7 +35,7 @@ fn write_piece<W: Write>(
     }
 }
 
-// Edits the cells of the frame or picture of this number, and writes them after the head.
+// Edits the cells of the frame or picture of this number, and writes them after the header.
 fn write_edited<W: Write>(
     writer: &mut Counted<W>,
     plan: &Plan,
@@ -95,7 +95,7 @@ fn take_cells<R: Read>(
     Ok(count)
 }
 
-/// Reads the cells of the frame or picture of this number, edits them, and writes the head and then
+/// Reads the cells of the frame or picture of this number, edits them, and writes the header and then
 /// the cells. The buffers have the capacity; their memory is touched only as bytes arrive.
 pub(crate) fn pass_cells<R: Read, W: Write>(
     reader: &mut Counted<R>,

@@ -24,7 +24,7 @@ use image_planes::Scratch;
 use std::alloc::{AllocError, Global};
 use std::io::{Read, Write};
 
-// How many bytes a head may have after its first letter, with one more that shows that it is too
+// How many bytes a header may have after its first letter, with one more that shows that it is too
 // long.
 const LONGEST: usize = 65536;
 
@@ -37,7 +37,7 @@ pub(crate) struct Kept {
     scratch: Scratch,
 }
 
-// Reads the rest of a head, whose first letter was read. Returns `None` where it isn't a head of at
+// Reads the rest of a header, whose first letter was read. Returns `None` where it isn't a header of at
 // most 64 KiB.
 fn read_head<R: Read>(reader: &mut Counted<R>) -> Result<Option<Picture>, RunFault>
     requires counts { failures_of reader.old < u64.MAX }
@@ -171,7 +171,7 @@ fn plan_for(
     make_plan(request, number, picture, cells, other)
 }
 
-// Passes on the picture of this number, the first letter of whose head was read. The plan of the
+// Passes on the picture of this number, the first letter of whose header was read. The plan of the
 // picture before it is used for it too, where both have the same size and kind.
 fn pass_picture<R: Read, W: Write>(
     request: Request<'_>,

@@ -199,14 +199,14 @@ pub fn run<R: Read, W: Write>(
         (W.contents (device_of writer.new)) }
 
     // Out of memory comes only where exactly the line of a video was read, or exactly the pictures
-    // before and one head more, of another size or kind than the last of them. The first edit is one
+    // before and one header more, of another size or kind than the last of them. The first edit is one
     // of that video or picture.
     ensures stops { Stops result (edits steps.now framing) (R.remaining (device_of reader.old))
         (R.remaining (device_of reader.new)) }
 
     // Of the video that was read, or of the pictures, it is known which shape each frame has, and of
     // these shapes in which frames an edit covers nothing. Of a picture that is refused, or that has
-    // no memory, the head was seen last.
+    // no memory, the header was seen last.
     ensures seen { Sees steps.now [] seen.old
         → RunSees result (edits steps.now framing) (R.remaining (device_of reader.old)) seen.new }
     ensures last { Sees steps.now [] seen.old
