@@ -1,6 +1,5 @@
 -- Each orientation is a turn, or the transposed source.
-use Rattle.std.proofs.Common.{◌∙◌, arith}
-use Rattle.std.proofs.lemmas.Grind.{common_steps}
+use Rattle.std.proofs.Common.{◌∙◌}
 use Rattle.image_turns.specs.declared.pixel_turning.Orientation.TheVariants.{Transposed, Right, Half, Left}
 use Rattle.image_turns.proofs.Oriented.{placed_cells}
 use Rattle.image_turns.proofs.pixel_turning.orient_cells.Goals as goal
@@ -16,15 +15,3 @@ returns-in-Half g c = rw c.in-Half.is (record { grid = c.turn_pixels-in-Half.ens
 
 pub returns-in-Left : goal.returns-in-Left
 returns-in-Left g c = rw c.in-Left.is (record { grid = c.turn_pixels-in-Left.ensures.grid ∙ placed_cells Left _; outside = c.turn_pixels-in-Left.ensures.outside })
-
-pub turn_pixels-requires-in-Left-clause-fits : goal.turn_pixels-requires-in-Left-clause-fits
-turn_pixels-requires-in-Left-clause-fits g c = grind (arith, common_steps)
-
-pub turn_pixels-requires-clause-fits : goal.turn_pixels-requires-clause-fits
-turn_pixels-requires-clause-fits g c = grind (arith, common_steps)
-
-pub turn_pixels-requires-in-Left-clause-source_fits : goal.turn_pixels-requires-in-Left-clause-source_fits
-turn_pixels-requires-in-Left-clause-source_fits g c = grind (arith, common_steps)
-
-pub transpose_pixels-requires-clause-fits : goal.transpose_pixels-requires-clause-fits
-transpose_pixels-requires-clause-fits g c = grind (arith, common_steps)

@@ -113,15 +113,3 @@ overflow_add-x g c =
 pub slice_bounds-write_part-end-in-loop-x : goal.slice_bounds-write_part-end-in-loop-x
 slice_bounds-write_part-end-in-loop-x g c =
     omega (arith, this_within c.loop-x.x c.args.part.count g.row.N c.loop-x-test.true, c.requires.part.many, c.loop-x.invariant.as_many)
-
-pub overflow_add-part-in-loop-x : goal.overflow_add-part-in-loop-x
-overflow_add-part-in-loop-x g c = grind (arith, common_steps)
-
-pub overflow_add-start : goal.overflow_add-start
-overflow_add-start g c = grind (arith, common_steps)
-
-pub source_start-start-requires-clause-fits : goal.source_start-start-requires-clause-fits
-source_start-start-requires-clause-fits g c = grind (arith, common_steps)
-
-pub source_start-from-requires-clause-fits : goal.source_start-from-requires-clause-fits
-source_start-from-requires-clause-fits g c = grind (arith, common_steps)

@@ -1,8 +1,7 @@
 -- A row more is joined, first by blocks, and then where the row doesn't overlap its place.
-use Rattle.std.proofs.Common.{◌-◌, ◌+◌, ◌*◌, ◌≤◌, ap, length, arith}
-use Rattle.row_mover.proofs.Compacting.{compacted_first, compacted_after, row_within, stays_apart}
+use Rattle.std.proofs.Common.{◌-◌, ap, length, arith}
+use Rattle.row_mover.proofs.Compacting.{compacted_first, compacted_after, row_within}
 use Rattle.row_mover.proofs.mover.RowMover.join_long.Goals as goal
-use Rattle.row_mover.proofs.mover.RowMover.join_long.Goals.{then-loop-y-test+else-y-stride, else-loop-y-test}
 
 pub loop-y-init : goal.loop-y-init
 loop-y-init g c =
@@ -33,22 +32,3 @@ pub loop-y-2-preserved : goal.loop-y-2-preserved
 loop-y-2-preserved g c =
     let a = c.args in
     compacted_after a.self.now a.width a.height a.stride c.requires.rows.fits c.requires.rows.some c.loop-y-2.mover c.shift_by-in-loop-y-2.new.self c.loop-y-2.y c.loop-y-2.invariant (omega (arith, c.requires.rows.apart)) c.loop-y-2-test.true c.shift_by-in-loop-y-2.ensures
-
-pub shift_by-requires-in-loop-y-2-clause-known : goal.shift_by-requires-in-loop-y-2-clause-known
-shift_by-requires-in-loop-y-2-clause-known g c =
-    let a = c.args in
-    let y = c.loop-y-2.y in
-    let before : y * a.width + a.width ≤ y * a.stride =
-    elim c.loop-y-test.branch [
-      | then-loop-y-test+else-y-stride w ↦ stays_apart a.width a.stride c.loop-y.y y w.if-y-stride.false (omega (arith, c.requires.rows.apart)) c.loop-y-2.auto.y
-      | else-loop-y-test w ↦ absurd (omega (arith, w.loop-y-test.false, c.loop-y-2-test.true, c.loop-y-2.auto.y))
-    ]
-    in
-    record {
-      enough = omega arith;
-      few = λ some. omega (arith, some);
-      next = λ is. omega (arith, is);
-      previous = λ is. omega (arith, is);
-      behind = λ is. omega (arith, is);
-      before = λ is. before;
-    }
