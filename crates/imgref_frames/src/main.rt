@@ -3,6 +3,7 @@
 
 mod alike;
 mod descriptors;
+mod failing;
 mod files;
 
 pub use devices::Counted;
