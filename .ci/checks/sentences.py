@@ -278,7 +278,7 @@ def main(words):
         return 0
     pages = [(ROOT / it).resolve() for it in words] or documents()
     cases.count("walls and rows of two things are found", (len([*walls(TRIED)]), len([*crowded(TRIED)])) == (2, 2))
-    sources = [] if words else [it for pattern in SOURCES for it in sorted(ROOT.glob(pattern)) if it != pathlib.Path(__file__).resolve()]
+    sources = [] if words else [it for pattern in SOURCES for it in sorted(ROOT.glob(pattern)) if it != pathlib.Path(__file__).resolve() and it.suffix != ".pyc"]
     for label, paths in (("the documents", pages), ("the sources", sources)):
         found = [line for it in paths for line in odd(it)]
         cases.count(f"no odd words in {label}", (paths or words) and not found, "\n".join(found))
