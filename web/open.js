@@ -42,10 +42,9 @@ export class Opener {
     }
     const text = page.hasDraft ? "The text has changes that aren't applied. " : "";
     const edits = page.isListUnsaved ? `${plural(length, "edit")} of ${page.name} ${length === 1 ? "isn't" : "aren't"} saved. ` : "";
-    const isGiven = await asked(`${edits}${text}Open ${name} all the same?`) === "discard";
-    // (an earlier word counts no more)
-    this.given = isGiven ? this.given : null;
-    return isGiven;
+    // (an earlier word counts no more: a browser may tell only later that the question is closed)
+    this.given = null;
+    return await asked(`${edits}${text}Open ${name} all the same?`) === "discard";
   }
 
   /** Opens a file. What is made while the browser decodes it isn't lost without a question. */
