@@ -69,7 +69,7 @@ TIMED = ("call_times.py", "web.py")
 # The crates that `test` proves, with those below them: the programs and the library for C.
 PRODUCT = ("imgref_run", "imgref_frames", "imgref_c")
 # What each takes from nothing on four processors, in minutes.
-MINUTES = {"test": 45, "gate": 90, "check": 45}
+MINUTES = {"test": 50, "gate": 90, "check": 45}
 # What is shown of a long part while it goes on: each proof that has ended, and what failed.
 ENDED = re.compile(r"== (\w+(?:: its tests)?)(?:: passed)?$")
 # Proof progress, of which a line is shown now and then.
@@ -276,8 +276,9 @@ def check(parts, _):
 
 def test(parts, _):
     """Runs every test with nothing proved, proves and builds the product beside that, and tries what was built."""
-    tests = Part("tests", [sys.executable, str(ROOT / ".ci/tests.py")], nice=0)
-    product = Part("product", building(*PRODUCT), counts=False, nice=5)
+    # (most else waits for the product, and the tests fill what its proofs leave idle)
+    tests = Part("tests", [sys.executable, str(ROOT / ".ci/tests.py")], nice=5)
+    product = Part("product", building(*PRODUCT), counts=False, nice=0)
     cached, timed = cached_checks(without=GATE_ALONE)
     built = scripts(CHECKS / "built", words=[ONE_BUILD], without=GATE_ALONE) + cached
     beside = scripts(CHECKS, without=GATE_ALONE)
