@@ -3,9 +3,12 @@
 Each is built by the package's own hook (bindings/python/backend.py), by a Python of that version with its headers. The wheel
 for aarch64 is compiled by Debian's gcc for that processor with the headers of this machine: the stable ABI is the same there.
 """
+import contextlib
 import glob
 import os
+import pathlib
 import shutil
+import tempfile
 
 import libraries
 from c_library import HEADER, Failure
@@ -21,6 +24,9 @@ except backend.Failure as why: sys.exit(str(why))"""
 # Says the version of a Python with headers.
 ASKS = "import os, sys, sysconfig; print(*sys.version_info[:2]) if os.path.isfile(sysconfig.get_path('include') + '/Python.h') and sys.implementation.name == 'cpython' else 0"
 
+
+# What Debian's headers of Python include by the name of the processor.
+BY_PROCESSOR = "/usr/include/*-linux-gnu/python3.*/pyconfig.h"
 
 # With this variable a release is tried without the wheel for Python 3.10, where the machine has no such Python.
 STABLE_ALONE = "IMGREF_STABLE_ALONE"
@@ -46,13 +52,30 @@ def chosen():
     return [stable[0], *([found[3, 10]] if (3, 10) in found else [])]
 
 
+@contextlib.contextmanager
+def headers_for(processor):
+    """A folder in which another processor's compiler finds by its own name what Debian's headers of Python include here."""
+    with tempfile.TemporaryDirectory(prefix="headers-") as room:
+        for it in map(pathlib.Path, glob.glob(BY_PROCESSOR)):
+            copy = pathlib.Path(room, processor.tools.rstrip("-"), it.parent.name, it.name)
+            copy.parent.mkdir(parents=True, exist_ok=True)
+            copy.write_bytes(it.read_bytes())
+        yield room
+
+
 def build(folder):
     """Writes the wheels into a folder."""
+    with headers_for(libraries.OTHER) as headers:
+        build_each(folder, headers)
+
+
+def build_each(folder, headers):
+    """Writes the wheels into a folder, that for the other processor by these headers too."""
     stable, *old = chosen()
     for python, its in ((stable, libraries.HERE), (stable, libraries.OTHER), *((it, libraries.HERE) for it in old)):
         env = os.environ | {"IMGREF_INCLUDE": str(HEADER.parent), "IMGREF_LIB": str(its.out()), "LC_ALL": "C"}
         if its != libraries.HERE:
-            env["CC"] = f"{its.tools}gcc"
+            env["CC"] = f"{its.tools}gcc -I{headers}"
         ran = run_to_end([python, "-B", "-c", HOOK, SOURCES, folder, PLATFORM.format(its.name)], env=env)
         if ran.returncode:
             raise Failure(f"{ran.stdout}{ran.stderr}".strip())
