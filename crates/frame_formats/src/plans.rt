@@ -297,7 +297,7 @@ impl Plan {
         scratch_len(&self.planes)
     }
 
-    /// Exactly the room for its blurs. Without a blur it takes no memory.
+    /// Exactly the work buffers for its blurs. Without a blur it takes no memory.
     pub fn scratch(&self, alloc: Global) -> Result<Scratch, AllocError>
         ensures room { IfOk result (HasRoom (recipe_of self.now).jobs) }
         ensures bytes { IfOk result (λ s. room_len s ≡ scratch_len (recipe_of self.now).jobs) }
@@ -307,7 +307,7 @@ impl Plan {
     }
 
     /// Edits the frame of this number, which is at the front of the first buffer, and returns what
-    /// it becomes. That is in the other buffer where its size changes. Blurs use the room.
+    /// it becomes. That is in the other buffer where its size changes. Blurs use work buffers.
     pub fn edit<'a>(
         &self,
         number: u64,

@@ -28,8 +28,8 @@ use std::io::{Read, Write};
 // long.
 const LONGEST: usize = 65536;
 
-/// The plan for a picture, which is also that for each of the same size and kind, and the room for
-/// its blurs.
+/// The plan for a picture, which is also that for each of the same size and kind, and the work
+/// buffers for its blurs.
 #[derive(Drop)]
 pub(crate) struct Kept {
     picture: Picture,
@@ -142,7 +142,7 @@ fn make_plan(
 }
 
 // The plan for the picture of this number: that of the picture before it where both have the same
-// size and kind, and else a new one. Then the room of the one before is given back first.
+// size and kind, and else a new one. Then the work buffers of the one before are given back first.
 #[tactic(auto, using(crate::proofs::Starts::needs_first, crate::proofs::Starts::needs_other))]
 fn plan_for(
     request: Request<'_>,

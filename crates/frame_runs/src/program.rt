@@ -31,7 +31,7 @@ use std::io::{Read, Write};
 // How many bytes the line of a video or of a frame may have, its line feed among them.
 const LONGEST: usize = 256;
 
-// The buffers for the frames of a video, and the room for its blurs.
+// The buffers for the frames of a video, and the work buffers for its blurs.
 #[derive(Drop)]
 struct Buffers {
     cells: Vec<u8>,

@@ -21,7 +21,7 @@ pub(crate) struct Request<'a> {
     pub(crate) framing: Option<Framing>,
 }
 
-// How many bytes the buffers for a plan have, and its room for blurs.
+// How many bytes the buffers for a plan have, and its work buffers for blurs.
 fn bytes_for(plan: &Plan) -> Option<usize>
     ensures { result ≡ as_usize (buffers_len (recipe_of plan.now)) }
 {
