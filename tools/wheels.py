@@ -23,10 +23,9 @@ try: print(backend.build_wheel(sys.argv[2], {"platform": sys.argv[3]}))
 except backend.Failure as why: sys.exit(str(why))"""
 # Says the version of a Python with headers.
 ASKS = "import os, sys, sysconfig; print(*sys.version_info[:2]) if os.path.isfile(sysconfig.get_path('include') + '/Python.h') and sys.implementation.name == 'cpython' else 0"
-
-
 # What Debian's headers of Python include by the name of the processor.
 BY_PROCESSOR = "/usr/include/*-linux-gnu/python3.*/pyconfig.h"
+
 
 # With this variable a release is tried without the wheel for Python 3.10, where the machine has no such Python.
 STABLE_ALONE = "IMGREF_STABLE_ALONE"
@@ -65,17 +64,12 @@ def headers_for(processor):
 
 def build(folder):
     """Writes the wheels into a folder."""
-    with headers_for(libraries.OTHER) as headers:
-        build_each(folder, headers)
-
-
-def build_each(folder, headers):
-    """Writes the wheels into a folder, that for the other processor by these headers too."""
     stable, *old = chosen()
-    for python, its in ((stable, libraries.HERE), (stable, libraries.OTHER), *((it, libraries.HERE) for it in old)):
-        env = os.environ | {"IMGREF_INCLUDE": str(HEADER.parent), "IMGREF_LIB": str(its.out()), "LC_ALL": "C"}
-        if its != libraries.HERE:
-            env["CC"] = f"{its.tools}gcc -I{headers}"
-        ran = run_to_end([python, "-B", "-c", HOOK, SOURCES, folder, PLATFORM.format(its.name)], env=env)
-        if ran.returncode:
-            raise Failure(f"{ran.stdout}{ran.stderr}".strip())
+    with headers_for(libraries.OTHER) as headers:
+        for python, its in ((stable, libraries.HERE), (stable, libraries.OTHER), *((it, libraries.HERE) for it in old)):
+            env = os.environ | {"IMGREF_INCLUDE": str(HEADER.parent), "IMGREF_LIB": str(its.out()), "LC_ALL": "C"}
+            if its != libraries.HERE:
+                env["CC"] = f"{its.tools}gcc -I{headers}"
+            ran = run_to_end([python, "-B", "-c", HOOK, SOURCES, folder, PLATFORM.format(its.name)], env=env)
+            if ran.returncode:
+                raise Failure(f"{ran.stdout}{ran.stderr}".strip())
