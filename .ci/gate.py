@@ -41,7 +41,7 @@ from needs import of_tests
 from packing import sum_of
 from processes import end_on_signals, run_to_end, started, workers
 from setup import set_up
-from workspace import need_rattle
+from workspace import is_proved, need_rattle, proved_once
 
 # The checks. Those in `built` run programs, and those in `proofs` go over cached proofs.
 CHECKS = ROOT / ".ci/checks"
@@ -62,12 +62,16 @@ GOES_OVER = {
     "second_build.py": ("imgref_run", "imgref_frames"),
     "strides.py": ("bench_strides",),
 }
-# Those of a group go one after the other: each takes all processors by itself, or builds what the one before built.
-IN_TURN = (("hide.py", "hide_phones.py", "hide_many.py"), ("c_library.py", "bindings.py"))
+# These run programs that only the proofs of the gate make. What needs none of these goes beside the proofs of a landing.
+OF_ALL_PROOFS = ("instructions.py", "refused_growths.py", "second_build.py", "strides.py")
+# Those of a group go one after the other: each takes all processors by itself.
+IN_TURN = (("hide.py", "hide_phones.py", "hide_many.py"),)
 # These time calls or the page, so they come last, with nothing beside them.
 TIMED = ("call_times.py", "web.py")
 # The crates that `test` proves, with those below them: the programs and the library for C.
 PRODUCT = ("imgref_run", "imgref_frames", "imgref_c")
+# What goes over a part of the product alone begins once that is proved: the last proofs leave processors idle.
+OVER = {"bindings.py": "imgref_c", "scripts.py": "imgref_run", "worked_scripts.py": "imgref_run", "memory_limits.py": "imgref_run"}
 # What each takes from nothing on four processors, in minutes.
 MINUTES = {"test": 50, "gate": 90, "check": 45}
 # What is shown of a long part while it goes on: each proof that has ended, and what failed.
@@ -153,6 +157,21 @@ class Part:
         self.passed, self.failed = passed, failed or int(not is_well)
         self.lacked, self.left = SKIPPED.findall("\n".join(lines)), VARIANT.findall("\n".join(lines))
         self.bad = [it.strip() for it in lines if TOLD.match(it)] if self.failed else []
+
+
+@dataclasses.dataclass
+class Proved:
+    """Waits until a crate is proved, or until the part that proves it has ended."""
+
+    name: str
+    by: Part
+
+    def run(self):
+        while not self.by.seconds and not is_proved(self.name):
+            time.sleep(1)
+        # (it is kept from others until all that was made is in its folder)
+        with proved_once(self.name):
+            pass
 
 
 def busy_seconds(process):
@@ -276,14 +295,15 @@ def check(parts, _):
 
 def test(parts, _):
     """Runs every test with nothing proved, proves and builds the product beside that, and tries what was built."""
-    # (most else waits for the product, and the tests fill what its proofs leave idle)
-    tests = Part("tests", [sys.executable, str(ROOT / ".ci/tests.py")], nice=5)
+    # (most else waits for the product, and the tests fill what its last proofs leave idle)
+    tests = Part("tests", [sys.executable, str(ROOT / ".ci/tests.py")])
     product = Part("product", building(*PRODUCT), counts=False, nice=0)
     cached, timed = cached_checks(without=GATE_ALONE)
     built = scripts(CHECKS / "built", words=[ONE_BUILD], without=GATE_ALONE) + cached
     beside = scripts(CHECKS, without=GATE_ALONE)
+    early = [[Proved(OVER[it.name], product), it] for it in built if it.name in OVER]
     parts += [tests, product, *built, *beside, *timed]
-    side_by_side([[tests], [product, apart(built)], beside])
+    side_by_side([[tests], [product, apart([it for it in built if it.name not in OVER])], *early, beside])
     side_by_side([timed])
 
 
@@ -306,9 +326,9 @@ def landing(parts, only):
     built = scripts(CHECKS / "built", words=[ONE_BUILD], without=(RELEASE, *without))
     release = Part(RELEASE, [sys.executable, str(CHECKS / "built" / RELEASE)])
     bugs, (cached, timed), beside = planted(only), cached_checks(without=without), scripts(CHECKS, without=without)
-    first = [proofs] if since.crates or since.has_more else []
+    first, late = [proofs] if since.crates or since.has_more else [], [it for it in built if it.name in OF_ALL_PROOFS]
     parts += [*first, *built, bugs, *cached, release, *beside, *timed]
-    side_by_side([[*first, [[bugs], *apart(cached), *apart(built), [release]]], beside])
+    side_by_side([[*first, apart(late)], [bugs], *apart([it for it in [*cached, *built] if it not in late]), [release], beside])
     side_by_side([timed])
 
 

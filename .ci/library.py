@@ -29,11 +29,3 @@ def counted(cases, label, said, status, form=COUNT, has_skips=True):
     if failed or status:
         print(said)
     cases.count(f"{label}: {passed} passed, {failed} failed, and its end", status == 0 and found)
-
-
-def installed(cases, room):
-    """The folder below which the library is installed, or None where that fails."""
-    prefix = pathlib.Path(room) / "prefix"
-    status, _, said = run(["make", "-s", "install", f"PREFIX={prefix}"], cwd=ROOT)
-    cases.count("make install", status == 0, said)
-    return prefix if status == 0 else None

@@ -91,11 +91,11 @@ def check_phone(page):
 
 
 def check_silence(page, asked):
-    """The page asked for itself alone."""
+    """The browser asked for the pages alone that were started."""
     found = {it for it in page.browser.requests() if not it.startswith(("data:", "blob:", "about:"))}
-    own = {f"{page.url}{it}" for it in ("index.html", "layout.html")}
+    own = {f"{page.url}{it}" for it in page.started}
     page.cases.count("the browser asked for the pages alone", found == own, sorted(found - own))
-    wanted = {"/index.html", "/layout.html"}
+    wanted = {f"/{it}" for it in page.started}
     page.cases.count("the server was asked for these alone", set(asked) == wanted, sorted(set(asked)))
     faults = [it for it in page.browser.faults() if not any(known in it for known in EXPECTED)]
     page.cases.count("the browser's console has no error", not faults, "\n".join(faults[:5]))

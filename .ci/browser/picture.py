@@ -69,9 +69,10 @@ class Page:
     """The page in a browser, with pictures to open."""
 
     def __init__(self, browser, url, cases):
-        self.browser, self.url, self.cases = browser, url, cases
+        self.browser, self.url, self.cases, self.started = browser, url, cases, set()
 
     def start(self, path="index.html"):
+        self.started.add(path)
         self.browser.open(f"{self.url}{path}")
         self.browser.enter()
         until(lambda: self.browser.run(STARTED))

@@ -2,8 +2,8 @@
 """The bindings as their users have them: the package for Python, built and installed by pip, and
 the crate for Rust.
 
-It builds over what the proofs left, and works in a folder of its own. What isn't on the machine is
-skipped. NumPy, OpenCV and PIL are those of the system's Python.
+It builds over what the proofs of the library left, which no program is needed for, and works in a folder of its own. What isn't on
+the machine is skipped. NumPy, OpenCV and PIL are those of the system's Python.
 """
 import dataclasses
 import json
@@ -15,18 +15,20 @@ import tempfile
 import zipfile
 
 sys.path.insert(0, str(pathlib.Path(__file__).resolve().parents[2]))
-from checking import ROOT, Cases
+from checking import ROOT, Cases, side_by_side
 
+import c_library
 import libraries
 import version
 from needs import imports
-from library import RUST_COUNT, counted, installed, run
+from library import RUST_COUNT, counted, run
 from python_package import HOOK, TRIED, described
 
 PYTHON = ROOT / "bindings/python"
 # The tests of the package, each a program that counts: those of every Python, and those of one.
 QUICK = ("calls", "formats", "shapes", "colours", "buffers", "refusals", "indexes", "regions")
 TESTS = (*QUICK, "reentry", "races")
+QUIET = os.environ | {"PYTHONDONTWRITEBYTECODE": "1"}
 # Freed memory is overwritten, so that a read or a write of it shows.
 DEBUGGED = {"PYTHONMALLOC": "debug", "MALLOC_PERTURB_": "165"}
 # A module that is compiled so is for this version of CPython and all later ones.
@@ -47,6 +49,25 @@ fn main() -> Result<(), imgref_proved::Refused> {
 """
 
 
+def installed(cases, room):
+    """The folder below which the library is as `make install` puts it there, or None where it isn't built. It needs no program."""
+    status, _, said = run(["make", "-s", "c"], cwd=ROOT)
+    cases.count("make c", status == 0, said)
+    prefix = room / "prefix"
+    for path, source in c_library.installed().items() if status == 0 else ():
+        if path.startswith(("include/", "lib/")):
+            (prefix / path).parent.mkdir(parents=True, exist_ok=True)
+            shutil.copy2(source, prefix / path)
+    if status == 0:
+        c_library.linked(prefix / "lib", is_installed=True)
+    return prefix if status == 0 else None
+
+
+def library(room):
+    """By these variables the package's build finds the library."""
+    return {"IMGREF_INCLUDE": str(room / "prefix/include"), "IMGREF_LIB": str(room / "prefix/lib")}
+
+
 def check_python(cases, room):
     """The wheel that `make python` builds, as pip installs it with no index, its tests, and the
     examples of its pages."""
@@ -55,21 +76,19 @@ def check_python(cases, room):
     cases.count("make python", status == 0 and len(wheels) == 1 and described(wheels[0]) in said, said)
     if status or not has_venv(cases, "Python's package installed by pip", sys.executable, room / "fresh", number=len(TESTS) + 5):
         return
-    quiet = os.environ | {"PYTHONDONTWRITEBYTECODE": "1"}
-    fresh = check_install(cases, room / "fresh", wheels[0], quiet)
-    status, _, said = run([fresh, "calls.py"], cwd=PYTHON / "tests", env=quiet)
+    fresh = check_install(cases, room / "fresh", wheels[0])
+    status, _, said = run([fresh, "calls.py"], cwd=PYTHON / "tests", env=QUIET)
     counted(cases, "Python, with nothing else installed: calls", said, status, has_skips=False)
-    check_wheel(cases, fresh, quiet)
+    check_wheel(cases, fresh)
     # (here are NumPy, OpenCV and PIL, where the machine has them)
     run([with_arrays(), "-m", "venv", "--system-site-packages", room / "venv"])
-    python = check_install(cases, room / "venv", wheels[0], quiet)
+    python = check_install(cases, room / "venv", wheels[0])
     for it, more in [*((it, {}) for it in TESTS), ("reentry", DEBUGGED)]:
-        status, _, said = run([python, f"{it}.py"], cwd=PYTHON / "tests", env=quiet | more)
+        status, _, said = run([python, f"{it}.py"], cwd=PYTHON / "tests", env=QUIET | more)
         counted(cases, f"Python: {it}{', under a debug allocator' if more else ''}", said, status)
-    check_pages(cases, "", python, quiet)
-    check_sources(cases, room, python, quiet)
+    check_pages(cases, "", python, QUIET)
+    check_sources(cases, room, python)
     check_hints(cases, room, python)
-    check_pythons(cases, room, quiet)
 
 
 def has_venv(cases, label, python, *words, number=1):
@@ -126,27 +145,25 @@ def pythons():
     return {f"CPython {'.'.join(map(str, version))} {key[2]}{', a debug build' if key[3] else ''}": (tuple(version), it) for key, (version, it) in sorted(found.items())}
 
 
-def check_pythons(cases, room, quiet):
+def check_pythons(cases, room):
     """The package on every Python of the machine: built for each, and built once for all from 3.11
     on. Where memory is wrong, a debug allocator, a debug build and valgrind say it."""
-    found, stable = pythons(), None
-    library = {"IMGREF_INCLUDE": str(room / "prefix/include"), "IMGREF_LIB": str(room / "prefix/lib")}
+    found, stable, env = pythons(), None, QUIET | library(room)
     for it in TRIED:
         if not any(f"{version[0]}.{version[1]}" == it for version, _ in found.values()):
             cases.leave("Python's package", f"CPython {it}")
     if not any("debug" in it for it in found):
         cases.skip("Python's package on a debug build", "python3-dbg", number=len(QUICK) + 2)
     for name, (version, python) in found.items():
-        built = unpacked(cases, name, python, room, quiet | library)
+        built = unpacked(cases, name, python, room, env)
         if built:
-            check_python_of(cases, name, python, quiet | {"PYTHONPATH": str(built)}, (*QUICK, "cycles"))
+            check_python_of(cases, name, python, QUIET | {"PYTHONPATH": str(built)}, (*QUICK, "cycles"))
         if not stable and version[:2] >= STABLE_FROM:
-            stable = unpacked(cases, f"{name}, for all later ones", python, room, quiet | library | {"CC": f"{os.environ.get('CC', 'cc')} {STABLE}"})
+            stable = unpacked(cases, f"{name}, for all later ones", python, room, env | {"CC": f"{os.environ.get('CC', 'cc')} {STABLE}"})
             for module in stable.glob("imgref/_native*.so") if stable else ():
                 module.rename(module.with_name("_native.abi3.so"))
         if stable and version[:2] >= STABLE_FROM:
-            check_python_of(cases, f"{name}, the module of the stable interface", python, quiet | {"PYTHONPATH": str(stable)}, ("calls", "buffers", "refusals", "cycles"))
-    check_by_valgrind(cases, room, found, quiet | library)
+            check_python_of(cases, f"{name}, the module of the stable interface", python, QUIET | {"PYTHONPATH": str(stable)}, ("calls", "buffers", "refusals", "cycles"))
 
 
 def unpacked(cases, name, python, room, env):
@@ -174,16 +191,17 @@ def check_python_of(cases, name, python, env, tests):
     check_pages(cases, f"{name}: ", python, env, has_skips=False)
 
 
-def check_by_valgrind(cases, room, found, env):
+def check_by_valgrind(cases, room):
     """Cycles under valgrind, by the system's Python, or else by the last one of pyenv."""
+    found = pythons()
     if cases.lacks("Python's cycles under valgrind", "valgrind") or not found:
         return
     system = [name for name in found if name.endswith("of the system")]
     name = (system or [*found])[-1]
     python = found[name][1]
-    if built := unpacked(cases, f"{name}, under valgrind", python, room, env):
+    if built := unpacked(cases, f"{name}, under valgrind", python, room, QUIET | library(room)):
         words = ["valgrind", "-q", "--error-exitcode=9", "--leak-check=no", python, "cycles.py", "3"]
-        status, _, said = run(words, cwd=PYTHON / "tests", env=env | {"PYTHONPATH": str(built), "PYTHONMALLOC": "malloc"})
+        status, _, said = run(words, cwd=PYTHON / "tests", env=QUIET | {"PYTHONPATH": str(built), "PYTHONMALLOC": "malloc"})
         counted(cases, f"{name}: cycles under valgrind", said, status)
 
 
@@ -193,30 +211,29 @@ def check_pages(cases, name, python, env, has_skips=True):
         counted(cases, f"{name}{page}", said, status, has_skips=has_skips)
 
 
-def check_install(cases, venv, wheel, quiet):
+def check_install(cases, venv, wheel):
     """The command of docs/PYTHON.md in a virtual environment, whose Python is returned."""
     python = venv / "bin/python"
-    status, _, said = run([python, "-m", "pip", "install", "--no-index", wheel], env=quiet)
+    status, _, said = run([python, "-m", "pip", "install", "--no-index", wheel], env=QUIET)
     cases.count(f"pip install --no-index, {venv.name}", status == 0, said)
     return python
 
 
-def check_wheel(cases, python, quiet):
+def check_wheel(cases, python):
     """The package has the licence, the text of its README and no dependency."""
     shows = "import importlib.metadata as m, json; it = m.metadata('imgref'); licence = [f.read_text() for f in m.files('imgref') if f.name == it['License-File']]; print(json.dumps([it.get_payload(), licence, m.requires('imgref')]))"
-    status, wrote, said = run([python, "-c", shows], env=quiet)
+    status, wrote, said = run([python, "-c", shows], env=QUIET)
     wanted = [(PYTHON / "README.md").read_text(), [(ROOT / "LICENSE").read_text()], None]
     cases.count("the wheel has README and licence, and needs no package", status == 0 and json.loads(wrote) == wanted, said)
 
 
-def check_sources(cases, room, python, quiet):
+def check_sources(cases, room, python):
     """pip builds the same package from its sources, over the library that is installed."""
     again = room / "again"
     words = ["-m", "pip", "wheel", "--no-index", "--no-deps", "--wheel-dir", again, shutil.copytree(PYTHON, room / "sources")]
-    found = {"IMGREF_INCLUDE": str(room / "prefix/include"), "IMGREF_LIB": str(room / "prefix/lib")}
-    status, _, said = run([python, *words], env=quiet | found)
+    status, _, said = run([python, *words], env=QUIET | library(room))
     cases.count("pip wheel from the sources", status == 0 and [it.name for it in again.glob("*")] == [it.name for it in (ROOT / "out/python").glob("*")], said)
-    status, _, said = run([python, *words], env=quiet | {"IMGREF_INCLUDE": str(room), "IMGREF_LIB": str(room)})
+    status, _, said = run([python, *words], env=QUIET | {"IMGREF_INCLUDE": str(room), "IMGREF_LIB": str(room)})
     cases.count("pip wheel without the library", status != 0 and "make c" in said, said)
 
 
@@ -296,8 +313,7 @@ def main():
         room = pathlib.Path(room)
         check_refused(cases, room)
         if prefix := installed(cases, room):
-            check_python(cases, room)
-            check_rust(cases, prefix, room)
+            side_by_side(cases, [lambda it: check_python(it, room), lambda it: check_pythons(it, room), lambda it: check_by_valgrind(it, room), lambda it: check_rust(it, prefix, room)])
     return cases.end()
 
 

@@ -13,7 +13,7 @@ import tempfile
 
 sys.path.insert(0, str(pathlib.Path(__file__).resolve().parents[2]))
 from checking import ROOT, Cases, side_by_side
-from library import WARNINGS, counted, installed, run
+from library import WARNINGS, counted, run
 
 import installed_pages
 from inspection import NEEDED, symbols
@@ -33,6 +33,14 @@ target_link_libraries(with_shared imgref::imgref)
 add_executable(with_static main.c)
 target_link_libraries(with_static imgref::static)
 """
+
+
+def installed(cases, room):
+    """The folder below which all is installed, or None where that fails."""
+    prefix = pathlib.Path(room) / "prefix"
+    status, _, said = run(["make", "-s", "install", f"PREFIX={prefix}"], cwd=ROOT)
+    cases.count("make install", status == 0, said)
+    return prefix if status == 0 else None
 
 
 def package(compiler):

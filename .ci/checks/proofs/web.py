@@ -5,9 +5,9 @@ It builds the page over what the proofs left (tools/web.py), serves it on this m
 what a person does: opens pictures, covers, undoes and saves. Saved files are compared with a model
 (.ci/frames.py) and with imgref_frames on the same picture. The layouts are compared with a model of
 scripts (.ci/model.py). Strokes, losses, the preview, saving and the ways to send are tried in Firefox
-too. All browsers run at the same time. A page with a wrong rule has to be found out. Where Chromium, its driver or
-Firefox isn't on the machine, what needs it is skipped. With the word --screenshots it writes those of the documents, and checks
-nothing.
+too. The browsers run at the same time, and then one alone, for what is timed. A page with a wrong
+rule has to be found out. Where Chromium, its driver or Firefox isn't on the machine, what needs it is
+skipped. With the word --screenshots it writes those of the documents, and checks nothing.
 """
 import base64
 import contextlib
@@ -128,49 +128,68 @@ def check_served(cases):
     cases.count("make web-serve ends by Ctrl-C", server.returncode == 0, left[-500:])
 
 
-def check_page(cases, program):
-    """All that needs a browser."""
-    with served(OUT) as (url, asked), served(OUT) as (other, other_asked), browser(cases, "the page in Chromium") as found:
-        if not found:
-            return
-        page = picture.Page(found, url, cases)
-        page.start()
-        cases.count(
-            "the page starts", found.run("return document.documentElement.dataset.ready") == "yes",
-            found.text("#problem")
-        )
-        picture.check_lists(page, program)
-        picture.check_lines(page, program)
-        picture.check_bad_lists(page)
-        picture.check_pointer(page)
-        for check in (covers.check_next_tool, covers.check_tiles, covers.check_edges, covers.check_moves, covers.check_said):
-            check(page)
-        acts.check_keys(page)
-        acts.check_undo(page)
-        acts.check_taken_back(page)
-        acts.check_hidden(page)
-        acts.check_means(page)
-        turns.check(page, program)
-        files.check_wrong_files(page)
-        files.check_given(page)
-        files.check_dropped(page)
-        files.check_plain(page)
-        files.check_small(page)
-        files.check_clear(page)
-        files.check_large(page)
-        for check in (views.check_sizes, views.check_zoom, views.check_brush, views.check_kept, views.check_copied,
-                      views.check_shortcuts, hands.check_fingers, hands.check_keys_alone):
-            check(page)
-        for check in (seen.check, kept.check, edges.check, edges.check_small_windows, edges.check_swipe):
-            check(page)
-        looks.check_names(page)
-        layout.check_output(page)
-        layout.check_steps(page)
-        looks.check_phone(page)
-        looks.check_silence(page, asked)
-        looks.check_sends(page, asked, other, other_asked)
-        looks.check_old(page)
-        hands.check_disk(page, OUT)
+@contextlib.contextmanager
+def opened(cases, label):
+    """The page in a browser of its own, and what its server was asked for, until the end of the block. Without a browser it is nothing."""
+    with served(OUT) as (url, asked), browser(cases, label) as found:
+        page = picture.Page(found, url, cases) if found else None
+        if page:
+            page.start()
+            cases.count(f"{label}: it starts", found.run("return document.documentElement.dataset.ready") == "yes", found.text("#problem"))
+        yield page, asked
+
+
+def check_edits(cases):
+    """What edits do to a picture, by a list and by hand."""
+    program = PROGRAM if made(cases, "frames") else None
+    with opened(cases, "edits in Chromium") as (page, asked):
+        if page:
+            picture.check_lists(page, program)
+            picture.check_lines(page, program)
+            picture.check_bad_lists(page)
+            picture.check_pointer(page)
+            for check in (covers.check_next_tool, covers.check_tiles, covers.check_edges, covers.check_moves, covers.check_said):
+                check(page)
+            for check in (acts.check_keys, acts.check_undo, acts.check_taken_back, acts.check_hidden, acts.check_means):
+                check(page)
+            turns.check(page, program)
+            looks.check_silence(page, asked)
+
+
+def check_opened(cases):
+    """What is opened and saved, the second page, and what the page says where it can't start."""
+    with opened(cases, "files in Chromium") as (page, asked):
+        if page:
+            for check in (files.check_wrong_files, files.check_given, files.check_dropped, files.check_plain, files.check_small, files.check_clear):
+                check(page)
+            looks.check_names(page)
+            layout.check_output(page)
+            layout.check_steps(page)
+            looks.check_phone(page)
+            looks.check_silence(page, asked)
+            looks.check_old(page)
+            hands.check_disk(page, OUT)
+
+
+def check_views(cases):
+    """What a person sees, with fingers and with keys alone, and that nothing is sent."""
+    with served(OUT) as (other, other_asked), opened(cases, "views in Chromium") as (page, asked):
+        if page:
+            for check in (views.check_sizes, views.check_zoom, views.check_brush, views.check_kept, views.check_copied,
+                          views.check_shortcuts, hands.check_fingers, hands.check_keys_alone):
+                check(page)
+            for check in (seen.check, kept.check, edges.check, edges.check_small_windows, edges.check_swipe):
+                check(page)
+            looks.check_silence(page, asked)
+            looks.check_sends(page, asked, other, other_asked)
+
+
+def check_large(cases):
+    """A large picture, whose opening, edits and saving are timed."""
+    with opened(cases, "a large picture in Chromium") as (page, asked):
+        if page:
+            files.check_large(page)
+            looks.check_silence(page, asked)
 
 
 def check_strokes(cases):
@@ -313,13 +332,10 @@ def main(words):
             return cases.end()
         check_files(cases)
         check_served(cases)
-        program = PROGRAM if made(cases, "frames") else None
-        others = [beside(cases, it) for it in (check_firefox, check_strokes, check_kinds)]
-        try:
-            check_page(cases, program)
-        finally:
-            for it in others:
-                it.join()
+        for it in [beside(cases, it) for it in (check_edits, check_views, check_opened, check_firefox, check_strokes, check_kinds)]:
+            it.join()
+        # (with nothing beside it)
+        beside(cases, check_large).join()
     return cases.end()
 
 
