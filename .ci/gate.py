@@ -120,9 +120,17 @@ class Part:
     # (the lines that name what failed)
     bad: list = dataclasses.field(default_factory=list)
     process: subprocess.Popen = None
+    ended: threading.Event = dataclasses.field(default_factory=threading.Event)
 
     def run(self):
-        """Runs the part, writes what it says into a file, and shows how far it is."""
+        """Runs the part. Who waits for its end goes on, also where it can't be run."""
+        try:
+            return self.work()
+        finally:
+            self.ended.set()
+
+    def work(self):
+        """Runs the command, writes what it says into a file, and shows how far it is."""
         began, shown, lines, ended = time.monotonic(), 0, [], 0
         log = LOGS / f"{self.name.replace(' ', '_')}.log"
         how = {"stdin": subprocess.DEVNULL, "stdout": subprocess.PIPE, "stderr": subprocess.STDOUT, "text": True, "errors": "replace"}
@@ -167,8 +175,8 @@ class Proved:
     by: Part
 
     def run(self):
-        while not self.by.seconds and not is_proved(self.name):
-            time.sleep(1)
+        while not is_proved(self.name) and not self.by.ended.wait(1):
+            pass
         # (it is kept from others until all that was made is in its folder)
         with proved_once(self.name):
             pass
