@@ -193,36 +193,47 @@ def check_large(cases):
 
 
 def check_strokes(cases):
-    """Strokes, and what is lost and shown, in a browser of their own. Then the same on a page that is wrong."""
-    with served(OUT) as (url, _), browser(cases, "strokes in Chromium") as found:
-        if not found:
-            return
-        page = picture.Page(found, url, cases)
-        page.start()
-        losses.check(page)
-        strokes.check_form(page)
-        strokes.check_crop(page)
-        strokes.check_random(page)
+    """What is lost and shown, and strokes of each form."""
+    with opened(cases, "strokes in Chromium") as (page, _):
+        if page:
+            for check in (losses.check, strokes.check_form, strokes.check_crop):
+                check(page)
+
+
+def check_chance(cases):
+    """Strokes by chance. Then strokes on a page that is wrong."""
+    with opened(cases, "strokes by chance in Chromium") as (page, _):
+        if page:
+            strokes.check_random(page)
     check_wrong_page(cases)
 
 
+@contextlib.contextmanager
+def opened_in_firefox(cases, label):
+    """The same as `opened`, in Firefox."""
+    with served(OUT) as (url, asked), firefox(cases, label) as found:
+        page = picture.Page(found, url, Prefixed(cases, "Firefox")) if found else None
+        if page:
+            page.start()
+        yield page, asked
+
+
 def check_firefox(cases):
-    """What is tried in Firefox: saving, strokes, what is lost and shown, and the ways to send."""
-    with served(OUT) as (url, asked), served(OUT) as (other, other_asked), firefox(cases, "the page in Firefox") as found:
-        if not found:
-            return
-        page = picture.Page(found, url, Prefixed(cases, "Firefox"))
-        page.start()
-        hands.check_handed(page)
-        files.check_plain(page)
-        losses.check(page)
-        strokes.check_form(page)
-        strokes.check_crop(page)
-        strokes.check_random(page)
-        for check in (seen.check, kept.check, edges.check):
-            check(page)
-        looks.check_sends(page, asked, other, other_asked)
-        hands.check_disk(page, OUT)
+    """What is tried in Firefox: saving, what is lost and shown, and strokes of each form."""
+    with opened_in_firefox(cases, "the page in Firefox") as (page, _):
+        if page:
+            for check in (hands.check_handed, files.check_plain, losses.check, strokes.check_form, strokes.check_crop):
+                check(page)
+
+
+def check_more_in_firefox(cases):
+    """Strokes by chance in Firefox, what a person sees there, and that nothing is sent."""
+    with served(OUT) as (other, other_asked), opened_in_firefox(cases, "more of the page in Firefox") as (page, asked):
+        if page:
+            for check in (strokes.check_random, seen.check, kept.check, edges.check):
+                check(page)
+            looks.check_sends(page, asked, other, other_asked)
+            hands.check_disk(page, OUT)
 
 
 # A name of this machine that a browser takes for another one's, so that its address is plain http.
@@ -332,7 +343,7 @@ def main(words):
             return cases.end()
         check_files(cases)
         check_served(cases)
-        for it in [beside(cases, it) for it in (check_edits, check_views, check_opened, check_firefox, check_strokes, check_kinds)]:
+        for it in [beside(cases, it) for it in (check_firefox, check_more_in_firefox, check_edits, check_strokes, check_chance, check_views, check_opened, check_kinds)]:
             it.join()
         # (with nothing beside it)
         beside(cases, check_large).join()
