@@ -263,6 +263,7 @@ impl Seen {
     pub fn nothing(alloc: Global) -> Seen
         ensures shape { shape_seen result ≡ None }
         ensures last { last_seen result ≡ 0 }
+        ensures kept { kept_shapes result ≡ None }
         ensures sees { (steps : List Edit) → Sees steps [] result }
     {
         Seen {
@@ -278,6 +279,7 @@ impl Seen {
     pub fn for_report(alloc: Global) -> Seen
         ensures shape { shape_seen result ≡ None }
         ensures last { last_seen result ≡ 0 }
+        ensures kept { kept_shapes result ≡ Some [] }
         ensures sees { (steps : List Edit) → Sees steps [] result }
     {
         Seen {

@@ -9,7 +9,7 @@ use Rattle.image_model.specs.Connected.{IsConnected}
 abbrev pub TellsApart : {T : Type 0} → (T → T → Bool) → Type 0
 TellsApart {T} eq = (p q : T) → Decides (eq p q) (p ≡ q)
 
--- the labels are 1, 2 and so on up to a count, and each of them is used. Places have one label exactly if they are connected
+-- the labels are 1, 2 and so on up to a count, and each of them is used. Places have one label exactly if they are connected. Which region gets which label is free
 pub record AreRegions {T : Type 0} (g : Grid T) (labels : Grid ℕ) (count : ℕ) : Type 0 where
   pub same_width : labels.width ≡ g.width
   pub same_height : labels.height ≡ g.height

@@ -16,14 +16,6 @@ pub fn sums_fit(image: ImgRef<'_, u8>) -> bool
     image.width() * image.height() < 1 << 56
 }
 
-// The pixel at a place, or 0.
-fn at(image: ImgRef<'_, u8>, x: usize, y: usize) -> u8
-    requires { Fits (ref_layout image) }
-    ensures { result ≡ shown (ref_grid image.entry) x y }
-{
-    image.get(x, y).unwrap_or(0)
-}
-
 // The sum above a place, or 0 in the first row.
 fn above(areas: &[u64], shape: Shape, x: usize, y: usize) -> u64
     requires { Fits (shaped areas.now shape) }
@@ -51,7 +43,7 @@ fn sum_areas(image: ImgRef<'_, u8>, cells: &mut [u64], shape: Shape)
     for y in 0..image.height() {
         let mut line = 0u64;
         for x in 0..image.width() {
-            line += u64::from(at(image, x, y));
+            line += u64::from(image.get(x, y).unwrap_or(0));
             let sum = above(cells, shape, x, y) + line;
             put(cells, shape, x, y, sum);
         }
