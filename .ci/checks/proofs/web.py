@@ -201,11 +201,10 @@ def check_strokes(cases):
 
 
 def check_chance(cases):
-    """Strokes by chance. Then strokes on a page that is wrong."""
+    """Strokes by chance."""
     with opened(cases, "strokes by chance in Chromium") as (page, _):
         if page:
             strokes.check_random(page)
-    check_wrong_page(cases)
 
 
 @contextlib.contextmanager
@@ -343,7 +342,7 @@ def main(words):
             return cases.end()
         check_files(cases)
         check_served(cases)
-        for it in [beside(cases, it) for it in (check_firefox, check_more_in_firefox, check_edits, check_strokes, check_chance, check_views, check_opened, check_kinds)]:
+        for it in [beside(cases, it) for it in (check_chance, check_firefox, check_more_in_firefox, check_edits, check_strokes, check_views, check_wrong_page, check_opened, check_kinds)]:
             it.join()
         # (with nothing beside it)
         beside(cases, check_large).join()
