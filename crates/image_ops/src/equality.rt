@@ -95,7 +95,6 @@ fn are_equal_by_width<T: PartialEq>(
 }
 
 /// Whether two images that fit are equal: they have the same size and equal pixels.
-#[tactic(auto, using(crate::proofs::Touching::same_sizes))]
 pub fn are_equal_fitting<T: PartialEq>(
     first: &[T],
     first_shape: Shape,

@@ -1,5 +1,6 @@
 -- Three spans, one after the other.
 use Rattle.std.proofs.Common.{◌≡◌, ◌≤◌, ◌/◌, length, sym, subst, ◌∙◌, arith}
+use Rattle.std.proofs.lemmas.Grind.{common_steps}
 use Rattle.image_means.specs.Blur.{BlursSpan}
 use Rattle.image_means.proofs.Spans.{spans_join}
 use Rattle.image_means.proofs.blur.blur_place.Goals.{then-factor-gt0+then-from-end, else-factor-gt0}
@@ -30,3 +31,6 @@ returns g c =
     let last = subst (λ n. BlursSpan place n sums end (length sums / place.blur.per) c.if-factor-gt0.row c.blur_span-2.new.row) left c.blur_span-2.ensures.means in
     let short : end ≤ length sums / place.blur.per = omega (arith, c.max-end.ensures, c.min-from.ensures, c.saturating_sub.ensures) in
     record { means = spans_join can (omega arith) short (omega arith) (spans_join can (omega arith) (omega (arith, c.max-end.ensures)) short first inner) last }
+
+pub blur_span-requires-2-clause-before : goal.blur_span-requires-2-clause-before
+blur_span-requires-2-clause-before g c = grind (arith, common_steps)

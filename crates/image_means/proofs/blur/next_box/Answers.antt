@@ -1,4 +1,5 @@
 -- A pixel comes in, and one goes out.
+use borrow.Author.Rules.{rules, scaled_fits≤}
 use Rattle.std.proofs.Common.{◌≡◌, ℕ, ◌+◌, ◌-◌, ◌*◌, ◌/◌, ◌^◌, min, length, ap, arith, inl, inr}
 use Rattle.image_means.specs.Blur.{pixels_upto}
 use Rattle.image_means.proofs.BoxSums.{between_bound, comes_in, goes_out, upto_grows}
@@ -41,3 +42,6 @@ returns-else-across-p c =
       | else-p-across w ↦ inr (omega (arith, w.if-p-across.false), w.sum-is)
     ]) in
     omega (arith, sum, ap (λ n. pixels_upto a.sums.now a.per a.at n) (let e : a.p - (a.across + 1) ≡ a.p - a.across = omega (arith, c.if-across-p.false) in e))
+
+pub offset_bounds-sums-p : goal.offset_bounds-sums-p
+offset_bounds-sums-p c = search (rules, scaled_fits≤) depth 2 fits 100

@@ -1,4 +1,5 @@
 -- The image shows at the window what was written there.
+use borrow.Author.Rules.{rules, scaled_fits≤}
 use Rattle.std.proofs.Common.{ap, ◌∙◌}
 use Rattle.image_model.specs.Grid.{grid_of, patch}
 use Rattle.image_means.specs.Means.{sample_mosaic_by}
@@ -17,3 +18,6 @@ returns g c =
           (c.mean_cells.ensures.grid ∙ ap (sample_mosaic_by a.bytes g.T.Sample.number g.T.Sample.sample a.tile.size a.tile.width a.tile.height) (part_shows _ _ _ _ _ _ part));
       outside = part_outside _ _ _ _ _ _ part c.mean_cells.new.cells c.mean_cells.ensures.outside;
     }
+
+pub offset_bounds-cells-part : goal.offset_bounds-cells-part
+offset_bounds-cells-part g c = search (rules, scaled_fits≤) depth 2 fits 100

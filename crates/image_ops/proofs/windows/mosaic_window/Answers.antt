@@ -1,4 +1,5 @@
 -- The image shows at the window what was written there.
+use borrow.Author.Rules.{rules, scaled_fits≤}
 use Rattle.std.proofs.Common.{ap, ◌-◌, ◌∙◌}
 use borrow.Rule.Slice.PartMut.{mid_of}
 use Rattle.image_model.specs.Grid.{grid_of, patch}
@@ -17,3 +18,6 @@ returns-clause-grid g c =
 
 pub returns-clause-outside : goal.returns-clause-outside
 returns-clause-outside g c = part_outside _ _ _ _ _ _ c.exact_part.ensures.part c.mosaic_cells.new.cells c.mosaic_cells.ensures.outside
+
+pub offset_bounds-cells-part : goal.offset_bounds-cells-part
+offset_bounds-cells-part g c = search (rules, scaled_fits≤) depth 2 fits 100

@@ -1,5 +1,6 @@
 -- The image shows at these rows what was written there, and that is what all pixels would show.
 use Rattle.std.proofs.Common.{ap, ◌∙◌, arith, rules, List}
+use Rattle.std.proofs.lemmas.Grind.{common_steps}
 use Rattle.image_model.specs.Grid.{Grid, grid_of, patch, view}
 use Rattle.image_model.specs.Windows.{window, window_view}
 use Rattle.image_shape.specs.Shape.{shaped_grid}
@@ -14,13 +15,13 @@ use Rattle.image_turns.proofs.bands.quarter_band.Goals.{After-exact_part}
 use Rattle.image_turns.proofs.bands.quarter_band.Goals as goal
 
 pub read_rows-requires-clause-sizes : goal.read_rows-requires-clause-sizes
-read_rows-requires-clause-sizes g c = record { fits = search rules; source_fits = search rules; width = search rules; height = search rules }
+read_rows-requires-clause-sizes g c = record { fits = search rules fits 100; source_fits = search rules fits 100; width = search rules fits 100; height = search rules fits 100 }
 
 pub quarter_lines-requires-clause-sizes : goal.quarter_lines-requires-clause-sizes
-quarter_lines-requires-clause-sizes g c = record { fits = search rules; source_fits = search rules; columns = search rules; lines = search rules }
+quarter_lines-requires-clause-sizes g c = record { fits = search rules fits 100; source_fits = search rules fits 100; columns = search rules fits 100; lines = search rules fits 100 }
 
 pub quarter_rows-requires : goal.quarter_rows-requires
-quarter_rows-requires g c = record { fits = search rules; source_fits = search rules; columns = search rules; lines = search rules }
+quarter_rows-requires g c = record { fits = search rules fits 100; source_fits = search rules fits 100; columns = search rules fits 100; lines = search rules fits 100 }
 
 -- the rows that the copied cells show are those of all pixels
 band_becomes : (g : Over) (c : After-exact_part g) (new : List g.row.T.Denot) → let a = c.args in Becomes a.shape a.cells.now new (patch (shaped_grid a.cells.now a.shape) c.new-place-2.result.left c.new-place-2.result.top (quartered a.from.crossing (shaped_grid c.read_rows.new.cells c.new-near.result)))
@@ -40,3 +41,6 @@ returns-then-blocks_pay-clause-becomes g c = band_becomes g (goal.at.returns-the
 
 pub returns-else-lines-clause-becomes : goal.returns-else-lines-clause-becomes
 returns-else-lines-clause-becomes g c = band_becomes g (goal.at.returns-else-lines-clause-becomes g c).After-exact_part _ (part_becomes _ _ _ _ _ _ c.exact_part.ensures.part _ _ c.quarter_rows.ensures)
+
+pub offset_bounds-cells-part : goal.offset_bounds-cells-part
+offset_bounds-cells-part g c = grind (arith, common_steps)

@@ -1,4 +1,5 @@
 -- Sixteen rows more, and all rows.
+use borrow.Author.Rules.{rules, scaled_fits≤}
 use Rattle.std.proofs.Common.{◌+◌, ◌-◌, ◌≤◌, ap, ◌∙◌, arith, min}
 use Rattle.image_model.specs.Grid.{Grid, grid_of}
 use Rattle.image_model.specs.Windows.{window, window_view}
@@ -37,3 +38,6 @@ loop-top-preserved g c =
 
 pub returns-clause-becomes : goal.returns-clause-becomes
 returns-clause-becomes g c = becomes_quartered c.args.from.crossing c.requires.sizes c.loop-top.invariant.0 (λ x y column line. omega (arith, line, c.loop-top-test.false, c.height-height.ensures.value))
+
+pub offset_bounds-cells-part : goal.offset_bounds-cells-part
+offset_bounds-cells-part g c = search (rules, scaled_fits≤) depth 2 fits 100

@@ -1,5 +1,6 @@
 -- One pair of blocks more, and all pairs.
 use Rattle.std.proofs.Common.{◌≡◌, ◌+◌, ◌≤◌, ◌⊎◌, refl, subst, arith, inl, inr}
+use Rattle.std.proofs.lemmas.Grind.{common_steps}
 use Rattle.image_shape.specs.Shape.{shaped_grid}
 use Rattle.image_turns.specs.Blocks.{pixels_crossed_at}
 use Rattle.image_writes.specs.Written.{Becomes}
@@ -31,3 +32,9 @@ loop-left-preserved g c =
 pub returns : goal.returns
 returns g c =
     all_pairs g.row.N c.requires.image.some c.args.shape c.requires.image.square c.args.cells.now c.loop-top.cells c.loop-top.top c.loop-top.top 0 c.loop-top.invariant.0 refl refl (omega (arith, c.loop-top-test.false, c.height-side.ensures.value))
+
+pub loop-top-preserved : goal.loop-top-preserved
+loop-top-preserved g c = grind (arith, common_steps)
+
+pub loop-left-init : goal.loop-left-init
+loop-left-init g c = grind (arith, common_steps)

@@ -1,4 +1,5 @@
 -- The image shows at the window what was written there.
+use borrow.Author.Rules.{rules, scaled_fits≤}
 use Rattle.std.proofs.Common.{◌*◌, sym, ap, ◌∙◌, subst, arith}
 use Rattle.image_model.specs.Grid.{grid_of, patch}
 use Rattle.image_shape.specs.Shape.{shaped_grid}
@@ -29,3 +30,9 @@ returns g c =
     subst (Becomes a.shape _ _)
     (ap (patch (shaped_grid a.cells.now a.shape) a.window.left a.window.top) (whole_across n (shaped_grid a.block.now b) _ _ _ (omega arith) (ap (λ k. k * n) c.height-count.ensures.value) high))
     (part_becomes _ _ _ _ _ _ c.exact_part.ensures.part _ _ c.orient_rows.ensures)
+
+pub offset_bounds-cells-part : goal.offset_bounds-cells-part
+offset_bounds-cells-part g c = search (rules, scaled_fits≤) depth 2 fits 100
+
+pub offset_bounds-cells-part-2 : goal.offset_bounds-cells-part-2
+offset_bounds-cells-part-2 g c = search (rules, scaled_fits≤) depth 2 fits 100

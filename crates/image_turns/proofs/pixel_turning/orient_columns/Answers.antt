@@ -1,4 +1,5 @@
 -- The image shows at the strip what was written there.
+use borrow.Author.Rules.{rules, scaled_fits≤}
 use Rattle.std.proofs.Common.{◌+◌, ◌*◌, ap, ◌∙◌, subst, arith}
 use Rattle.std.proofs.lemmas.Nat.{mul-le}
 use Rattle.std.proofs.Math.Nat.{add-mul}
@@ -28,3 +29,6 @@ returns g c =
     subst (Becomes a.shape _ _)
     ((λ i. patch from (strip i).left (strip i).top (view q (a.left * g.row.N) 0 (a.count * g.row.N) (high i))))
     (part_becomes _ _ _ _ _ _ c.exact_part.ensures.part _ _ c.orient_rows.ensures)
+
+pub offset_bounds-cells-part : goal.offset_bounds-cells-part
+offset_bounds-cells-part g c = search (rules, scaled_fits≤) depth 2 fits 100

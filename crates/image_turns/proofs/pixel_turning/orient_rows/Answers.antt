@@ -1,4 +1,5 @@
 -- The rows so far come from the source.
+use borrow.Author.Rules.{rules, scaled_fits≤}
 use Rattle.std.proofs.Common.{◌<◌, refl, subst, arith}
 use Rattle.image_model.specs.Layout.{Layout}
 use Rattle.image_model.specs.Rows.{row_count}
@@ -30,3 +31,6 @@ returns g c =
     (view_shown g.row.N c.requires.some a.origin.orientation from a.origin.columns c.requires.source_width a.left a.count a.shape.height c.requires.across c.requires.height)
     (becomes_places from column line _ _ a.shape c.loop-y.y c.loop-y.invariant _ _ c.requires.width refl (omega (arith, c.row_count-y-end.ensures.value))
     (shown_within g.row.N c.requires.some a.origin.orientation from a.origin.columns c.requires.source_width a.left a.count a.shape.height c.requires.across c.requires.height))
+
+pub offset_bounds-cells-range : goal.offset_bounds-cells-range
+offset_bounds-cells-range g c = search (rules, scaled_fits≤) depth 2 fits 100

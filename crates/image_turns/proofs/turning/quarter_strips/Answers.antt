@@ -1,4 +1,5 @@
 -- One strip more, and all columns.
+use borrow.Author.Rules.{rules, scaled_fits≤}
 use Rattle.std.proofs.Common.{List, ◌+◌, ◌≤◌, sym, ap, ◌∙◌, arith}
 use Rattle.image_model.specs.Grid.{Grid, grid_of, patch, view}
 use Rattle.image_model.specs.Windows.{window, window_view}
@@ -38,3 +39,6 @@ loop-left-preserved g c =
 
 pub returns : goal.returns
 returns g c = becomes_quartered c.args.from.crossing c.requires c.loop-left.invariant (λ x y column line. omega (arith, column, c.loop-left-test.false, c.width-columns.ensures.value))
+
+pub offset_bounds-cells-cut : goal.offset_bounds-cells-cut
+offset_bounds-cells-cut g c = search (rules, scaled_fits≤) depth 2 fits 100
