@@ -321,7 +321,6 @@ pub fn picture_covers_nothing(picture: Picture, edit: Edit) -> bool
 }
 
 // The rectangle that an edit changes in a frame of this size.
-#[tactic(auto, using(crate::proofs::NearBoxes::keeps))]
 fn drawn(unit: Unit, width: usize, height: usize, edit: Edit) -> Window
     requires { IsUnit unit }
     ensures drawn { result ≡ drawn unit width height edit }
