@@ -1,10 +1,9 @@
 -- Lines of edits, by what their words are.
-use Rattle.std.proofs.Common.{◌≡◌, ◌≢◌, ◌++◌, ℕ, Bool, true, false, List, [], ◌∷◌, Option, Some, None, drop, refl, sym, ap, ◌∙◌, subst}
-use Rattle.std.specs.Prelude.{IfSome}
+use Rattle.std.proofs.Common.{◌≡◌, ◌≢◌, ◌++◌, ℕ, Bool, true, false, List, [], ◌∷◌, Option, Some, None, refl, sym, ap, ◌∙◌}
 use Rattle.std.specs.Option.{is_some, option_map}
 use Rattle.text_model.specs.Reading.{◌>>=◌}
 use Rattle.frame_edits.specs.Edits.{Edits, edits}
-use Rattle.frame_edits.specs.Lists.{IsEditLine, WordsAre, edit_of, framing_of, steps_of, with_line, with_lines, with_one, with_words}
+use Rattle.frame_edits.specs.Lists.{WordsAre, edit_of, framing_of, steps_of, with_line, with_lines, with_one, with_words}
 use Rattle.frame_edits.specs.Words.{Named}
 use Rattle.frame_edits.specs.declared.found.Found.{Found}
 use Rattle.frame_edits.specs.declared.found.Line.TheVariants.{Blank, Edit as One, Bad}
@@ -15,7 +14,7 @@ use Rattle.frame_edits.proofs.EditsEach.{none_of}
 
 -- ---- one line
 
-pub line_blank : (old : Edits) (line : List ℕ) → WordsAre (line_words line) Blank → with_line old line ≡ Some old
+line_blank : (old : Edits) (line : List ℕ) → WordsAre (line_words line) Blank → with_line old line ≡ Some old
 line_blank old line are = ap (with_words old) are
 
 some_words : (old : Edits) (words : List (List ℕ)) → words ≢ [] → with_words old words ≡ with_one old words
@@ -26,36 +25,22 @@ by_framing : (steps : List Edit) (framing : Option Framing) (words : List (List 
 by_framing steps None words found is first = ap (option_map (λ e. edits (steps ++ e.steps) e.framing)) is
 by_framing steps (Some f) words found is first = absurd cc
 
-pub line_edit : (old : Edits) (line : List ℕ) (found : Found) → WordsAre (line_words line) (One found) → old.framing ≡ None → with_line old line ≡ Some (edits (old.steps ++ steps_of found) (framing_of found))
+line_edit : (old : Edits) (line : List ℕ) (found : Found) → WordsAre (line_words line) (One found) → old.framing ≡ None → with_line old line ≡ Some (edits (old.steps ++ steps_of found) (framing_of found))
 line_edit old line found are first = some_words old (line_words line) are.0 ∙ by_framing old.steps old.framing (line_words line) _ are.1 first
 
 late_one : (steps : List Edit) (framing : Option Framing) (words : List (List ℕ)) → framing ≢ None → with_one (edits steps framing) words ≡ None
 late_one steps None words late = absurd (late refl)
 late_one steps (Some f) words late = refl
 
-pub line_late : (old : Edits) (line : List ℕ) (found : Found) → WordsAre (line_words line) (One found) → old.framing ≢ None → with_line old line ≡ None
+line_late : (old : Edits) (line : List ℕ) (found : Found) → WordsAre (line_words line) (One found) → old.framing ≢ None → with_line old line ≡ None
 line_late old line found are late = some_words old (line_words line) are.0 ∙ late_one old.steps old.framing (line_words line) late
 
 bad_one : (steps : List Edit) (framing : Option Framing) (words : List (List ℕ)) → edit_of words ≡ None → with_one (edits steps framing) words ≡ None
 bad_one steps None words none = ap (option_map (λ e. edits (steps ++ e.steps) e.framing)) none
 bad_one steps (Some f) words none = refl
 
-pub line_bad : (old : Edits) (line : List ℕ) → WordsAre (line_words line) Bad → with_line old line ≡ None
+line_bad : (old : Edits) (line : List ℕ) → WordsAre (line_words line) Bad → with_line old line ≡ None
 line_bad old line are = some_words old (line_words line) are.0 ∙ bad_one old.steps old.framing (line_words line) are.1
-
--- more steps are others
-grown : (xs ys : List Edit) → ys ≢ [] → xs ++ ys ≢ xs
-grown [] ys some same = some same
-grown (x ∷ xs) ys some same = grown xs ys some (ap (drop 1) same)
-
-pub line_step : (old : Edits) (line : List ℕ) (found : Found) → WordsAre (line_words line) (One found) → old.framing ≡ None → steps_of found ≢ [] → IsEditLine old line
-line_step old line found are first some =
-    let made = line_edit old line found are first in
-    record {
-      word = are.0;
-      edit = λ none. let both : Some (edits (old.steps ++ steps_of found) (framing_of found)) ≡ None = sym made ∙ none in absurd cc;
-      step = subst (λ (o : Option Edits). IfSome o (λ new. new.steps ≢ old.steps)) (sym made) (grown old.steps (steps_of found) some);
-    }
 
 -- ---- all lines: whether each is an edit doesn't depend on the steps before
 

@@ -1,7 +1,7 @@
 //! What a cover is in a frame: a fill of whole samples, with a margin.
 
 ghost use Rattle.std.specs.Prelude.{◌≡◌, ◌<◌, ◌+◌, ◌-◌, min, Some, None};
-ghost use Rattle.frame_edits.specs.Covers.{IsUnit, chroma_unit, video_unit, margin_of, cover_start, cover_count, window_from, box_window, changes_nothing, covers_nothing, frames_for, has_no_pixel, one_pixel, settled, settled_by, drawn, KeepsMargin, turns_over, window_of, with_window};
+ghost use Rattle.frame_edits.specs.Covers.{IsUnit, chroma_unit, video_unit, margin_of, cover_start, cover_count, window_from, box_window, changes_nothing, covers_nothing, frames_for, has_no_pixel, one_pixel, settled, settled_by, drawn, KeepsMargin, turns_over, up_to, window_of, with_window};
 
 use crate::paint::Paint;
 use crate::words::{Edit, Scope};
@@ -60,6 +60,41 @@ fn end_of(before: usize, more: usize, pixels: usize, start: usize, count: usize)
     }
 }
 
+// The same up to the end of a sample, which has so many pixels.
+fn sample_end(
+    step: usize,
+    before: usize,
+    more: usize,
+    pixels: usize,
+    start: usize,
+    count: usize,
+) -> usize
+    requires { 0 < step }
+    ensures { result ≡ min pixels (up_to step (start + count + more - before)) }
+{
+    let end = end_of(before, more, pixels, start, count);
+    if pixels <= end {
+        return pixels;
+    }
+    let over = end % step;
+    if over == 0 {
+        return end;
+    }
+    let gap = step - over;
+    if pixels - end <= gap {
+        pixels
+    } else {
+        end + gap
+    }
+}
+
+// The margin of a cover: the one that is named, or else two pixels, and at least a sample.
+fn margin_of(margin: Option<usize>, step: usize) -> usize
+    ensures { result ≡ margin_of margin step }
+{
+    margin.unwrap_or(step.max(2))
+}
+
 // Where a cover begins in one direction, and how many pixels it has, of so many. Its numbers count
 // from so many pixels before the frame.
 fn cover_of(
@@ -75,7 +110,7 @@ fn cover_of(
     ensures count { result.1
         ≡ cover_count step (margin_of margin step) before pixels start count }
 {
-    let more = margin.unwrap_or(step.max(2));
+    let more = margin_of(margin, step);
     let from = start.saturating_sub(more).saturating_sub(before);
     if pixels <= from {
         return (0, 0);
@@ -84,20 +119,8 @@ fn cover_of(
     if count == 0 && more == 0 {
         return (first, 0);
     }
-    let end = end_of(before, more, pixels, start, count);
-    if pixels <= end {
-        return (first, pixels - first);
-    }
-    let over = end % step;
-    if over == 0 {
-        return (first, end - first);
-    }
-    let gap = step - over;
-    if pixels - end <= gap {
-        (first, pixels - first)
-    } else {
-        (first, end + gap - first)
-    }
+    let end = sample_end(step, before, more, pixels, start, count);
+    (first, end - first)
 }
 
 fn window_from(
@@ -298,7 +321,6 @@ pub fn picture_covers_nothing(picture: Picture, edit: Edit) -> bool
 }
 
 // The rectangle that an edit changes in a frame of this size.
-#[tactic(auto, using(crate::proofs::NearBoxes::keeps))]
 fn drawn(unit: Unit, width: usize, height: usize, edit: Edit) -> Window
     requires { IsUnit unit }
     ensures drawn { result ≡ drawn unit width height edit }

@@ -169,7 +169,6 @@ impl Edits {
     }
 
     // Adds the edit that a line is, where it has a word.
-    #[tactic(auto, using(crate::proofs::EditLines::line_blank, crate::proofs::EditLines::line_edit, crate::proofs::EditLines::line_late, crate::proofs::EditLines::line_bad, crate::proofs::EditLines::line_step))]
     fn take_line(&mut self, line: &[u8]) -> Result<(), WordsFault>
         ensures taken { OnOk result (with_line (plain self.old) line.now ≡ Some (plain self.new)) }
         ensures none { IfErr result

@@ -57,7 +57,6 @@ fn push_step(steps: &mut Vec<Step<Paint>>, step: Option<Step<Paint>>) -> Result<
 /// The edits as steps of a frame of this size. A cover is the fill that it is there, and a range of
 /// times has the frames that are in it at this rate. An interlaced video takes no change that
 /// exchanges its fields.
-#[tactic(auto, using(crate::proofs::StepsEach::one_more, crate::proofs::StepsEach::one_stops, crate::proofs::StepsEach::first_more))]
 pub(crate) fn settle_all(
     alloc: Global,
     unit: Unit,

@@ -97,7 +97,6 @@ fn make_room(
 }
 
 // A new plan for the picture of this number, with room for it.
-#[tactic(auto, using(crate::proofs::Starts::plan_needs, crate::proofs::Starts::picture_starts))]
 fn make_plan(
     request: Request<'_>,
     number: u64,

@@ -1,6 +1,7 @@
 -- The cells were read, and written as they become.
 use Rattle.std.proofs.Common.{arith}
 use Rattle.std.specs.Io.KnownBytes.{Appends}
+use Rattle.std.proofs.lemmas.Grind.{common_steps}
 use Rattle.devices.specs.Device.{device_of}
 use Rattle.devices.specs.Whole.{AppendsBeginning}
 use Rattle.frame_formats.specs.Planned.{recipe_of}
@@ -22,3 +23,9 @@ returns-in_err-write_edited-clause-passes g c =
     c.from_residual-in_err-write_edited.result Output c.from_residual-in_err-write_edited.ensures
     (cells_passed (AppendsBeginning (g.W.Write.contents (device_of c.args.writer.now)) (g.W.Write.contents (device_of c.write_edited.new.writer)))
     (with_head c.args.head.now (recipe_of c.args.plan.now)) c.args.number c.in_ok-count.count c.take_cells.new.cells.items c.deref_mut.result.now _ _ (c.in_ok-count.ensures.whole (omega arith)).0 c.in_ok-count.ensures.within c.in_ok-count.ensures.bytes c.deref_mut.ensures.value c.in_err-write_edited.ensures.beginning)
+
+pub returns-then-count-room-clause-passes : goal.returns-then-count-room-clause-passes
+returns-then-count-room-clause-passes g c = grind (arith, common_steps)
+
+pub returns-in_err-write_edited-clause-counts : goal.returns-in_err-write_edited-clause-counts
+returns-in_err-write_edited-clause-counts g c = grind (arith, common_steps)

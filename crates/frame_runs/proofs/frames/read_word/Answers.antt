@@ -1,5 +1,6 @@
 -- The input ends within the word, or something else is there.
 use Rattle.std.proofs.Common.{take, arith, length-take-le, refl, subst}
+use Rattle.std.proofs.lemmas.Grind.{common_steps}
 use Rattle.devices.specs.Device.{device_of}
 use Rattle.frame_runs.proofs.FrameLines.{cut_line}
 use Rattle.devices.specs.Whole.{GaveFewer}
@@ -20,3 +21,6 @@ returns-in_err-count-clause-found g c =
     let old = g.R.Read.remaining (device_of c.args.reader.now) in
     let new = g.R.Read.remaining (device_of c.fill.new.reader) in
     handed_on (λ r. WordIs r c.fill.new.buffer old new) c.from_residual.result Input c.from_residual.ensures (refl, subst (λ size. GaveFewer size old new) c.requires.room c.in_err-count.ensures.failed)
+
+pub returns-else-eq-2-clause-found : goal.returns-else-eq-2-clause-found
+returns-else-eq-2-clause-found g c = grind (arith, common_steps)
