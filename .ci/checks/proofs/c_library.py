@@ -125,34 +125,39 @@ def check_cpp(cases, prefix, room):
             counted(cases, f"calls from C++, {label}", said, status)
 
 
-def check_view(cases, prefix, room):
-    """The view of imgref.hpp by each standard and compiler that is there, under sanitizers, and the example in C++."""
-    compilers = dict.fromkeys([os.environ.get("CXX", "c++"), "clang++"])
-    for compiler in (it.split() for it in compilers):
-        if not shutil.which(compiler[0]):
-            cases.skip(f"view.cpp, {' '.join(compiler)}", package(compiler), number=3)
-            continue
-        for standard in ("-std=c++17", "-std=c++20", "-std=c++23"):
-            label = f"view.cpp, {' '.join(compiler)} {standard}"
-            if run([*compiler, standard, "-fsyntax-only", "-x", "c++", "/dev/null"])[0]:
-                cases.leave(label, "C++23") if standard.endswith("23") else cases.skip(label, package(compiler))
-                continue
-            words = [*standard.split(), "-O1", "-g", *WARNINGS, "-fsanitize=address,undefined", "-fno-sanitize-recover=all", f"-I{prefix / 'include'}"]
-            status, _, said = run([*compiler, *words, ROOT / ".ci/c/view.cpp", "-o", room / "view", prefix / "lib/libimgref.a"])
-            cases.count(label, status == 0, said)
-            if status == 0:
-                status, _, said = run([room / "view"])
-                counted(cases, f"calls of {label}", said, status)
-    compiler = os.environ.get("CXX", "c++").split()
+# The standards by which the view of imgref.hpp is tried.
+STANDARDS = (17, 20, 23)
+
+
+def cpp_compilers():
+    """The compilers of C++ by which the view is tried. The examples are built by the first one."""
+    return [it.split() for it in dict.fromkeys([os.environ.get("CXX", "c++"), "clang++"])]
+
+
+def check_view(cases, compiler, standard, prefix, room):
+    """The view of imgref.hpp by a compiler and a standard, under sanitizers."""
+    name = f"view.cpp, {' '.join(compiler)}"
+    label = f"{name} -std=c++{standard}"
     if not shutil.which(compiler[0]):
-        cases.skip("the example in C++, and what compiles", package(compiler), number=6 + 2 * len(COMPILES))
-    else:
-        check_hide(cases, compiler, prefix, room)
-        check_reading(cases, compiler, prefix, room)
+        cases.skip(label, package(compiler))
+        return
+    if run([*compiler, f"-std=c++{standard}", "-fsyntax-only", "-x", "c++", "/dev/null"])[0]:
+        cases.leave(label, "C++23") if standard == 23 else cases.skip(label, package(compiler))
+        return
+    words = [f"-std=c++{standard}", "-O1", "-g", *WARNINGS, "-fsanitize=address,undefined", "-fno-sanitize-recover=all", f"-I{prefix / 'include'}"]
+    made = room / f"view-{pathlib.Path(compiler[0]).name}-{standard}"
+    status, _, said = run([*compiler, *words, ROOT / ".ci/c/view.cpp", "-o", made, prefix / "lib/libimgref.a"])
+    cases.count(label, status == 0, said)
+    if status == 0:
+        status, _, said = run([made])
+        counted(cases, f"calls of {label}", said, status)
 
 
 def check_hide(cases, compiler, prefix, room):
     """The example in C++ hides a window, and writes nothing where it is refused."""
+    if not shutil.which(compiler[0]):
+        cases.skip("the example in C++", package(compiler), number=7)
+        return
     status, _, said = run([*compiler, "-std=c++17", "-O2", *WARNINGS, f"-I{prefix / 'include'}", ROOT / "examples/cpp/hide.cpp", "-o", room / "hide", prefix / "lib/libimgref.a"])
     cases.count("hide.cpp", status == 0, said)
     for label, words, given, wanted in (("a window", "1 0 2 2 66", HIDDEN, b"P5\n3 2\n255\nABBDBB"), ("black", "1 0 2 2", HIDDEN, b"P5\n3 2\n255\nA\0\0D\0\0"), ("no window", "2 0 2 2", HIDDEN, None), ("cut off", "1 0 2 2", HIDDEN[:-1], None), ("no number", "1 0 2 -2", HIDDEN, None), ("no value of a byte", "1 0 2 2 256", HIDDEN, None)):
@@ -195,7 +200,7 @@ COMPILES = {
 }
 
 
-def check_reading(cases, compiler, prefix, room):
+def check_reading(cases, compiler, standard, prefix, room):
     """What may not be meant doesn't compile: a write through a view for reading, a pixel of three bytes, a value that doesn't fit
     a pixel, and a rectangle of three numbers. What is meant does."""
     head = """#include <imgref.hpp>
@@ -206,25 +211,24 @@ int main() {
     imgref::view<const unsigned char> r(reading, 6, 3, 2, 3); imgref::view<unsigned char> v(c, 3, 2); imgref::view<four> p(colours, 3, 2);
     std::uint64_t numbers[6] = {}; imgref::view<std::uint64_t> n(numbers, 3, 2);
 """
-    file = room / "reading.cpp"
-    for standard in (17, 20):
-        words = [*compiler, f"-std=c++{standard}", f"-I{prefix / 'include'}", "-fsyntax-only", file]
-        file.write_text(f"#if {standard} > 17 && !defined(__cpp_consteval)\n#error\n#endif\n")
-        if run(words)[0]:
-            cases.skip(f"what compiles by C++{standard}", package(compiler), number=len(COMPILES))
-            continue
-        file.write_text(f"{head}return number; }}\n")
+    file = room / f"reading{standard}.cpp"
+    words = [*compiler, f"-std=c++{standard}", f"-I{prefix / 'include'}", "-fsyntax-only", file]
+    file.write_text(f"#if {standard} > 17 && !defined(__cpp_consteval)\n#error\n#endif\n")
+    if not shutil.which(compiler[0]) or run(words)[0]:
+        cases.skip(f"what compiles by C++{standard}", package(compiler), number=len(COMPILES))
+        return
+    file.write_text(f"{head}return number; }}\n")
+    status, _, said = run(words)
+    cases.count(f"C++{standard}: the head compiles", status == 0, said)
+    for line, since in COMPILES.items():
+        file.write_text(f"{head}{line} }}\n")
         status, _, said = run(words)
-        cases.count(f"C++{standard}: the head compiles", status == 0, said)
-        for line, since in COMPILES.items():
+        is_well = 0 < since <= standard
+        cases.count(f"C++{standard} {'compiles' if is_well else 'refuses'}: {line}", (status == 0) == is_well, said)
+    if standard == 17:
+        for line in ("v.fill({0, 0, 1, 1}, 255);", "v.fill(0);", "v.put(0, 0, number);", "return v.count(7);"):
             file.write_text(f"{head}{line} }}\n")
-            status, _, said = run(words)
-            is_well = 0 < since <= standard
-            cases.count(f"C++{standard} {'compiles' if is_well else 'refuses'}: {line}", (status == 0) == is_well, said)
-        if standard == 17:
-            for line in ("v.fill({0, 0, 1, 1}, 255);", "v.fill(0);", "v.put(0, 0, number);", "return v.count(7);"):
-                file.write_text(f"{head}{line} }}\n")
-                cases.count(f"C++17's error names braces: {line}", "write a constant in braces" in run(words)[2], run(words)[2])
+            cases.count(f"C++17's error names braces: {line}", "write a constant in braces" in run(words)[2], run(words)[2])
 
 
 def check_cmake(cases, prefix, room):
@@ -348,9 +352,12 @@ def main():
     with tempfile.TemporaryDirectory(prefix="c-library-") as room:
         room = pathlib.Path(room)
         if prefix := installed(cases, room):
+            of_cpp = cpp_compilers()
             checks = (
+                *(lambda it, standard=standard: check_reading(it, of_cpp[0], standard, prefix, room) for standard in STANDARDS[:2]),
                 lambda it: check_c(it, compiler, prefix, room),
-                lambda it: check_view(it, prefix, room),
+                *(lambda it, words=words, standard=standard: check_view(it, words, standard, prefix, room) for words in of_cpp for standard in STANDARDS),
+                lambda it: check_hide(it, of_cpp[0], prefix, room),
                 lambda it: check_cpp(it, prefix, room),
                 lambda it: check_races(it, compiler, prefix, room),
                 lambda it: check_names(it, compiler, prefix),
