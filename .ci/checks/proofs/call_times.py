@@ -3,12 +3,11 @@
 
 It comes last, with nothing beside it.
 """
-import os
 import pathlib
 import sys
 import tempfile
 
-from bindings import PYTHON, check_install, has_venv, with_arrays
+from bindings import PYTHON, QUIET, check_install, has_venv, with_arrays
 from checking import ROOT, Cases
 from library import counted, run
 
@@ -18,10 +17,10 @@ def main():
     status, _, said = run(["make", "-s", "python"], cwd=ROOT)
     cases.count("make python", status == 0, said)
     with tempfile.TemporaryDirectory(prefix="times-") as room:
-        room, quiet = pathlib.Path(room), os.environ | {"PYTHONDONTWRITEBYTECODE": "1"}
+        room = pathlib.Path(room)
         if not status and has_venv(cases, "the times of calls from Python", with_arrays(), "--system-site-packages", room / "venv"):
-            python = check_install(cases, room / "venv", next((ROOT / "out/python").glob("imgref-*.whl")), quiet)
-            status, _, said = run([python, "speed.py"], cwd=PYTHON / "tests", env=quiet)
+            python = check_install(cases, room / "venv", next((ROOT / "out/python").glob("imgref-*.whl")))
+            status, _, said = run([python, "speed.py"], cwd=PYTHON / "tests", env=QUIET)
             counted(cases, "Python: speed", said, status)
     return cases.end()
 
