@@ -12,7 +12,8 @@ A written answer that no longer fits a goal is left out, and the check made agai
 it doesn't hold. What shows no goal so is tried by itself, in the function itself, and judged as `rt must-fail` does. What is
 then refused by a proof by hand alone is counted and said.
 
-The crates are proved first, where their cached proofs are not fresh, and are only read: each check runs in a room of its own.
+The crates are only read: each check runs in a room of its own. A crate whose cached proofs are not fresh is proved first, beside the
+checks of the others.
 With --changed only those bugs are tried that a difference from a commit affects (the one of .ci/last_landed), as changed.py tells.
 With --landing it is these, and one in twenty of the others that change a public function. With
 --once none is tried where all were refused before at these very texts of the crates, as by `make gate`. With
@@ -32,7 +33,7 @@ from bugs import batches, plant, read
 from changed import affected, for_landing
 from packing import sum_of, sum_of_tree
 from processes import end_on_signals, run_to_end, workers
-from proving import Failed, Progress, all_below, processors, prove_changed, said_with, weights_of
+from proving import Failed, Progress, all_below, changed, processors, prove_changed, said_with, weights_of
 from workspace import PARTS, ROOT, crates, with_those_below
 
 GOAL = re.compile(r"note: (?:\./)?(src/\S+?):(\d+):\d+: ")
@@ -222,17 +223,23 @@ def main():
         if asked.list:
             print(*(f"{name}: {', '.join(it.path.stem + ('' if it.is_copied else ' (in place)') for it in batch)}" for name, batch in checks), sep="\n", flush=True)
             return 0
-        said = prove_changed([*bugs], Progress(*weights_of(all_below([*bugs]))))
-        if said is not None:
-            raise Failed("", said)
     except Failed as why:
         print(f"{why.said}\n0 passed, 1 failed")
         return 1
+    # (the longest first)
+    checks.sort(key=lambda it: -len(it[1]) * (1 + len(with_those_below(it[0]))))
+    way = compile_all if asked.compile else try_all
     with workers(processors()) as pool:
-        # (the longest first)
-        checks.sort(key=lambda it: -len(it[1]) * (1 + len(with_those_below(it[0]))))
-        way = compile_all if asked.compile else try_all
-        for it in concurrent.futures.as_completed([pool.submit(lambda *it: [*told(way(*it))], *it) for it in checks]):
+        begin = lambda names: [pool.submit(lambda *it: [*told(way(*it))], *it) for it in checks if it[0] in names]
+        proved = {it for it in bugs if not changed([it])}
+        running = begin(proved)
+        said = prove_changed([*bugs], Progress(*weights_of(all_below([*bugs]))))
+        if said is None:
+            running += begin({*bugs} - proved)
+        else:
+            print(said, flush=True)
+            failed += 1
+        for it in concurrent.futures.as_completed(running):
             refused = it.result()
             passed, failed = passed + sum(refused), failed + len(refused) - sum(refused)
     print(f"{passed} passed, {failed} failed")
