@@ -123,7 +123,7 @@ class Part:
     ended: threading.Event = dataclasses.field(default_factory=threading.Event)
 
     def run(self):
-        """Runs the part. Who waits for its end goes on, also where it can't be run."""
+        """Runs the part. Whoever waits for its end goes on, also where it can't be run."""
         try:
             return self.work()
         finally:
@@ -336,7 +336,7 @@ def landing(parts, only):
     bugs, (cached, timed), beside = planted(only), cached_checks(without=without), scripts(CHECKS, without=without)
     first, late = [proofs] if since.crates or since.has_more else [], [it for it in built if it.name in OF_ALL_PROOFS]
     parts += [*first, *built, bugs, *cached, release, *beside, *timed]
-    side_by_side([[*first, apart(late)], [bugs], *apart([it for it in [*cached, *built] if it not in late]), [release], beside])
+    side_by_side([[*first, apart(late)], [bugs], *apart([it for it in [*cached, *built] if it.name not in OF_ALL_PROOFS]), [release], beside])
     side_by_side([timed])
 
 
