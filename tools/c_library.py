@@ -155,6 +155,15 @@ def scripts_and_pages():
     return files | installed_pages.files()
 
 
+def copied(files, prefix):
+    """Copies files to their paths below a prefix, the library among them, and returns the prefix."""
+    for path, source in files.items():
+        (prefix / path).parent.mkdir(parents=True, exist_ok=True)
+        shutil.copy2(source, prefix / path)
+    linked(prefix / "lib", is_installed=True)
+    return prefix
+
+
 def install(prefix, stage=""):
     """Copies all that a user has below `prefix`. With a `stage` it goes below that folder."""
     build()
@@ -162,10 +171,7 @@ def install(prefix, stage=""):
         raise Failure("the programs are not proved")
     named = os.path.abspath(prefix)
     prefix = pathlib.Path(os.path.abspath(stage) + named if stage else named)
-    for path, source in installed().items():
-        (prefix / path).parent.mkdir(parents=True, exist_ok=True)
-        shutil.copy2(source, prefix / path)
-    linked(prefix / "lib", is_installed=True)
+    copied(installed(), prefix)
     texts = {"lib/pkgconfig/imgref.pc": package(named, "${prefix}/include", "${prefix}/lib")}
     texts |= {f"lib/cmake/imgref/{name}": text for name, text in cmake().items()} | installed_pages.texts()
     for below, text in texts.items():

@@ -2,8 +2,8 @@
 """The bindings as their users have them: the package for Python, built and installed by pip, and
 the crate for Rust.
 
-It builds over what the proofs of the library left, which no program is needed for, and works in a folder of its own. What isn't on
-the machine is skipped. NumPy, OpenCV and PIL are those of the system's Python.
+It builds over what the proofs of the library left, needs no program, and works in a folder of its own.
+What isn't on the machine is skipped. NumPy, OpenCV and PIL are those of the system's Python.
 """
 import dataclasses
 import json
@@ -53,14 +53,10 @@ def installed(cases, room):
     """The folder below which the library is as `make install` puts it there, or None where it isn't built. It needs no program."""
     status, _, said = run(["make", "-s", "c"], cwd=ROOT)
     cases.count("make c", status == 0, said)
-    prefix = room / "prefix"
-    for path, source in c_library.installed().items() if status == 0 else ():
-        if path.startswith(("include/", "lib/")):
-            (prefix / path).parent.mkdir(parents=True, exist_ok=True)
-            shutil.copy2(source, prefix / path)
-    if status == 0:
-        c_library.linked(prefix / "lib", is_installed=True)
-    return prefix if status == 0 else None
+    if status:
+        return None
+    files = c_library.installed().items()
+    return c_library.copied({path: it for path, it in files if path.startswith(("include/", "lib/"))}, room / "prefix")
 
 
 def library(room):

@@ -129,10 +129,11 @@ def check_served(cases):
 
 
 @contextlib.contextmanager
-def opened(cases, label):
+def opened(cases, label, browse=browser):
     """The page in a browser of its own, and what its server was asked for, until the end of the block. Without a browser it is nothing."""
-    with served(OUT) as (url, asked), browser(cases, label) as found:
-        page = picture.Page(found, url, cases) if found else None
+    with served(OUT) as (url, asked), browse(cases, label) as found:
+        own = Prefixed(cases, "Firefox") if browse is firefox else cases
+        page = picture.Page(found, url, own) if found else None
         if page:
             page.start()
             cases.count(f"{label}: it starts", found.run("return document.documentElement.dataset.ready") == "yes", found.text("#problem"))
@@ -207,19 +208,9 @@ def check_chance(cases):
             strokes.check_random(page)
 
 
-@contextlib.contextmanager
-def opened_in_firefox(cases, label):
-    """The same as `opened`, in Firefox."""
-    with served(OUT) as (url, asked), firefox(cases, label) as found:
-        page = picture.Page(found, url, Prefixed(cases, "Firefox")) if found else None
-        if page:
-            page.start()
-        yield page, asked
-
-
 def check_firefox(cases):
     """What is tried in Firefox: saving, what is lost and shown, and strokes of each form."""
-    with opened_in_firefox(cases, "the page in Firefox") as (page, _):
+    with opened(cases, "the page in Firefox", firefox) as (page, _):
         if page:
             for check in (hands.check_handed, files.check_plain, losses.check, strokes.check_form, strokes.check_crop):
                 check(page)
@@ -227,7 +218,7 @@ def check_firefox(cases):
 
 def check_more_in_firefox(cases):
     """Strokes by chance in Firefox, what a person sees there, and that nothing is sent."""
-    with served(OUT) as (other, other_asked), opened_in_firefox(cases, "more of the page in Firefox") as (page, asked):
+    with served(OUT) as (other, other_asked), opened(cases, "more of the page in Firefox", firefox) as (page, asked):
         if page:
             for check in (strokes.check_random, seen.check, kept.check, edges.check):
                 check(page)
