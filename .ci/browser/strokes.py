@@ -11,8 +11,8 @@ TOOLS = ("fill", "mosaic", "brush")
 KINDS = ("mouse", "touch")
 # The lines of a form: left, right, and the top of each. A line is so high, and the next begins just below it.
 LEFT, RIGHT, TOPS, HIGH = 60, 230, (60, 78, 96, 114), 14
-# How many strokes are drawn by chance, and how many of them on one picture. The seed is a fixed one.
-STROKES, ON_ONE, SEED = 320, 16, "strokes"
+# On how many pictures strokes are drawn by chance, and how many of them on each. The seed is a fixed one.
+PICTURES, ON_ONE, SEED = range(20), 16, "strokes"
 # How wide the brush is, in pixels of the picture.
 BRUSH = 14
 # By how many pixels of the screen a browser may round the place of a pointer.
@@ -300,10 +300,10 @@ def zoom(hand, chance):
 ACTS = (undo, redo, delete, move_by_keys, idle_key, idle_key, click, click, stroke_by_keys, zoom)
 
 
-def run_random(page, count=STROKES):
-    """Strokes by chance, with other acts between them: gives for each picture its faults, and what was done."""
-    chance = random.Random(SEED)
-    for at in range(0, count, ON_ONE):
+def run_random(page, pictures):
+    """Strokes by chance on these pictures, with other acts between them: gives for each its faults, and what was done."""
+    for at in pictures:
+        chance = random.Random(f"{SEED} on {at}")
         hand, done = Hand(page, at, at_once=chance.random() < 0.7), []
         for _ in range(ON_ONE):
             if hand.model.covers and chance.random() < 0.4:
@@ -320,7 +320,7 @@ def run_random(page, count=STROKES):
         yield hand.faults(), done
 
 
-def check_random(page):
+def check_random(page, pictures):
     """Each pixel that a stroke covered is covered in the file."""
-    for at, (faults, done) in enumerate(run_random(page)):
+    for at, (faults, done) in zip(pictures, run_random(page, pictures)):
         page.count(f"strokes by chance, picture {at}: what they covered is covered", faults == [0, 0], f"{faults} {done}")

@@ -201,11 +201,23 @@ def check_strokes(cases):
                 check(page)
 
 
-def check_chance(cases):
-    """Strokes by chance."""
-    with opened(cases, "strokes by chance in Chromium") as (page, _):
-        if page:
-            strokes.check_random(page)
+def by_chance(label, browse, pictures):
+    """The check of strokes by chance on some of the pictures, in a browser of its own."""
+
+    def check_chance(cases):
+        with opened(cases, label, browse) as (page, _):
+            if page:
+                strokes.check_random(page, pictures)
+
+    return check_chance
+
+
+# They take longest, so two browsers of a kind share the pictures.
+BY_CHANCE = [
+    by_chance(f"{part} of strokes by chance in {name}", browse, strokes.PICTURES[at::2])
+    for name, browse in (("Chromium", browser), ("Firefox", firefox))
+    for at, part in enumerate(("half", "the other half"))
+]
 
 
 def check_firefox(cases):
@@ -217,10 +229,10 @@ def check_firefox(cases):
 
 
 def check_more_in_firefox(cases):
-    """Strokes by chance in Firefox, what a person sees there, and that nothing is sent."""
+    """What a person sees in Firefox, and that nothing is sent."""
     with served(OUT) as (other, other_asked), opened(cases, "more of the page in Firefox", firefox) as (page, asked):
         if page:
-            for check in (strokes.check_random, seen.check, kept.check, edges.check):
+            for check in (seen.check, kept.check, edges.check):
                 check(page)
             looks.check_sends(page, asked, other, other_asked)
             hands.check_disk(page, OUT)
@@ -305,7 +317,7 @@ def check_wrong_page(cases):
             page.start()
             strokes.check_form(page, ("mouse",))
             cases.count("a form that is covered on a page with the old rule is found out", faults.failed > 0, faults.failed)
-            shown = [it for it, _ in strokes.run_random(page, 2 * strokes.ON_ONE)]
+            shown = [it for it, _ in strokes.run_random(page, strokes.PICTURES[:2])]
             cases.count("and so are strokes by chance", any(it[0] for it in shown), shown)
 
 
@@ -333,7 +345,7 @@ def main(words):
             return cases.end()
         check_files(cases)
         check_served(cases)
-        for it in [beside(cases, it) for it in (check_chance, check_firefox, check_more_in_firefox, check_edits, check_strokes, check_views, check_wrong_page, check_opened, check_kinds)]:
+        for it in [beside(cases, it) for it in (*BY_CHANCE, check_firefox, check_more_in_firefox, check_edits, check_strokes, check_views, check_wrong_page, check_opened, check_kinds)]:
             it.join()
         # (with nothing beside it)
         beside(cases, check_large).join()

@@ -1,3 +1,4 @@
 pub mod Device
 pub mod Whole
 pub mod Fault
+pub mod FileIds

@@ -6,8 +6,8 @@ use Rattle.std.specs.Option.{option_map}
 use Rattle.std.proofs.lemmas.Bool.Decides.{eqb_tells}
 use Rattle.text_model.specs.Reading.{◌>>=◌, number_of, window_of}
 use Rattle.image_shape.specs.declared.window.Window.{Window}
-use Rattle.image_planes.specs.declared.change.Axes.{Axes}
-use Rattle.image_planes.specs.declared.target.Quarter.{Quarter}
+use Rattle.image_commands.specs.declared.changes.Axes.{Axes}
+use Rattle.image_commands.specs.declared.changes.Quarter.{Quarter}
 use Rattle.frame_lists.specs.Ranges.{range_of}
 use Rattle.frame_lists.specs.declared.ranges.Range.{Range}
 use Rattle.frame_edits.specs.declared.framing.Framing.{Framing}

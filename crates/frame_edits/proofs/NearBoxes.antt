@@ -3,8 +3,8 @@ use Rattle.std.proofs.Common.{ℕ, ◌+◌, ◌-◌, ◌<◌, ◌≤◌, Option,
 use Rattle.std.proofs.lemmas.Bool.Decides.{nat_tests}
 use Rattle.image_shape.specs.declared.window.Window.{Window}
 use Rattle.frame_edits.specs.Covers.{HasMargin, KeepsAround, KeepsExact, KeepsMargin, KeepsMarginBy, cover_count, cover_start, down_to, drawn, drawn_by, fill_in, margin_of, settled, up_to, window_from, window_of}
-use Rattle.image_planes.specs.declared.change.Change.{Change}
-use Rattle.image_planes.specs.declared.change.Change.TheVariants.{Fill, Mosaic, Mean, Blur, Move, Flip}
+use Rattle.image_commands.specs.declared.changes.Change.{Change}
+use Rattle.image_commands.specs.declared.changes.Change.TheVariants.{Fill, Mosaic, Mean, Blur, Move, Flip}
 use Rattle.frame_edits.specs.declared.covers.Unit.{Unit as Samples}
 use Rattle.frame_edits.specs.declared.paint.Paint.{Paint}
 use Rattle.frame_edits.specs.declared.paint.Paint.TheVariants.{Grey, Black, Colour, Around}

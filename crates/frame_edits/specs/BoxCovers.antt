@@ -2,7 +2,7 @@
 use Rattle.std.specs.Prelude.{◌≡◌, ℕ, ◌-◌, List, Option, Some, map, IsPermutation}
 use Rattle.std.specs.List.Sorted.{IsNonDecreasingBy, IsStableByKey}
 use Rattle.std.specs.Ordering.{nat_cmp}
-use Rattle.image_planes.specs.declared.change.Change.TheVariants.{Fill}
+use Rattle.image_commands.specs.declared.changes.Change.TheVariants.{Fill}
 use Rattle.frame_lists.specs.declared.boxes.Tracked.{Tracked}
 use Rattle.frame_lists.specs.declared.ranges.Range.{Range}
 use Rattle.frame_lists.specs.declared.ranges.Range.TheVariants.{Frames, Times}

@@ -1,9 +1,9 @@
 -- What a cover is in a frame: a fill of whole samples, with a margin.
 use Rattle.std.specs.Prelude.{◌≡◌, ℕ, ◌<◌, ◌≤◌, ◌+◌, ◌-◌, ◌*◌, ◌%◌, ◌==◌, ◌||◌, ◌&&◌, Bool, true, false, nat_le, if◌then◌else◌, Option, Some, None, min, max}
 use Rattle.image_shape.specs.declared.window.Window.{Window}
-use Rattle.image_planes.specs.declared.change.Change.{Change}
-use Rattle.image_planes.specs.declared.change.Change.TheVariants.{Fill, Mosaic, Mean, Blur, Move, Flip}
-use Rattle.image_planes.specs.declared.change.Axes.TheVariants.{Rows, Both}
+use Rattle.image_commands.specs.declared.changes.Change.{Change}
+use Rattle.image_commands.specs.declared.changes.Change.TheVariants.{Fill, Mosaic, Mean, Blur, Move, Flip}
+use Rattle.image_commands.specs.declared.changes.Axes.TheVariants.{Rows, Both}
 use Rattle.frame_lists.specs.Ranges.{frames_in}
 use Rattle.frame_heads.specs.declared.rate.Rate.{Rate}
 use Rattle.frame_edits.specs.Words.{no_window}

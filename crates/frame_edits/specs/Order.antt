@@ -1,7 +1,7 @@
 -- Edits that come too late to hide what an earlier one of the same frames may show.
 use Rattle.std.specs.Prelude.{ℕ, ◌&&◌, Bool, true, not, nat_lt, List, [], ◌∷◌, Option, Some, None}
 use Rattle.std.specs.List.{list_any}
-use Rattle.image_planes.specs.Filled.{fills, spreads}
+use Rattle.image_commands.specs.Changes.{fills, spreads}
 use Rattle.frame_lists.specs.declared.ranges.Range.{Range}
 use Rattle.frame_lists.specs.declared.ranges.Range.TheVariants.{Frames, Times}
 use Rattle.frame_edits.specs.declared.words.Edit.{Edit}

@@ -5,15 +5,15 @@ use Rattle.std.specs.Str.{bytes_eq}
 use Rattle.image_shape.specs.declared.window.Window.{Window}
 use Rattle.frame_edits.specs.declared.paint.Paint.{Paint}
 use Rattle.frame_edits.specs.declared.paint.Paint.TheVariants.{Grey, Colour, Around}
-use Rattle.image_planes.specs.declared.change.Change.{Change}
-use Rattle.image_planes.specs.Samples.{One}
-use Rattle.image_planes.specs.declared.change.Change.TheVariants.{Fill, Mosaic, Mean, Blur, Move, Flip}
-use Rattle.image_planes.specs.declared.change.Axes.{Axes}
-use Rattle.image_planes.specs.declared.change.Axes.TheVariants.{Rows, Columns, Both}
+use Rattle.image_commands.specs.declared.changes.Change.{Change}
+use Rattle.image_shape.specs.declared.samples.SampleBytes.TheVariants.{One}
+use Rattle.image_commands.specs.declared.changes.Change.TheVariants.{Fill, Mosaic, Mean, Blur, Move, Flip}
+use Rattle.image_commands.specs.declared.changes.Axes.{Axes}
+use Rattle.image_commands.specs.declared.changes.Axes.TheVariants.{Rows, Columns, Both}
 use Rattle.frame_edits.specs.declared.framing.Framing.{Framing}
 use Rattle.frame_edits.specs.declared.framing.Framing.TheVariants.{Crop, Pad, Turn}
-use Rattle.image_planes.specs.declared.target.Quarter.{Quarter}
-use Rattle.image_planes.specs.declared.target.Quarter.TheVariants.{Right, Left}
+use Rattle.image_commands.specs.declared.changes.Quarter.{Quarter}
+use Rattle.image_commands.specs.declared.changes.Quarter.TheVariants.{Right, Left}
 use Rattle.text_model.specs.Parts.{parts_of}
 use Rattle.text_model.specs.Reading.{◌>>=◌, number_of, first_of_parts, number_at, window_of, is_nil}
 use Rattle.frame_lists.specs.Ranges.{range_of}

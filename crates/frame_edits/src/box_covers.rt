@@ -10,7 +10,7 @@ use crate::covers::with_window;
 use crate::paint::Paint;
 use crate::words::{Edit, Scope};
 use frame_lists::{Range, Tracked, WordsFault, read_tracked, window_of_box};
-use image_planes::{Change, Window};
+use image_commands::{Change, Window};
 use std::alloc::{AllocError, AllocFailed, Global};
 
 /// What becomes of each box, and how many pixels more on each side. Without a number they are 2, and

@@ -7,7 +7,7 @@ use crate::paint::Paint;
 use crate::words::{Edit, Scope};
 use frame_heads::{Chroma, Format, Picture, Rate};
 use frame_lists::BEFORE;
-use image_planes::{Axes, Change, Window};
+use image_commands::{Axes, Change, Window};
 
 /// How many columns and rows of pixels share a sample, of both fields where there are two.
 #[derive(Clone, Copy, PartialEq, Eq)]

@@ -1,6 +1,6 @@
 //! The change of the size of frames.
 
-use image_planes::{Quarter, Window};
+use image_commands::{Quarter, Window};
 
 /// The change of the size of frames, in pixels.
 #[derive(Clone, Copy, PartialEq, Eq)]

@@ -9,6 +9,7 @@ mod framing;
 mod holds;
 mod lists;
 mod paint;
+mod unsuited;
 mod words;
 
 pub use box_covers::{BoxStyle, cover_of, first_frame, read_boxes};
@@ -20,4 +21,5 @@ pub use framing::Framing;
 pub use holds::{held_at, read_held};
 pub use lists::Edits;
 pub use paint::Paint;
+pub use unsuited::Unsuited;
 pub use words::{Edit, Scope, read_way};

@@ -8,7 +8,7 @@ ghost use Rattle.frame_edits.specs.Words.{pair_of, radius_of, colour_in, paint_o
 use crate::framing::Framing;
 use crate::paint::Paint;
 use frame_lists::{Range, read_range};
-use image_planes::{Axes, Change, Quarter, SampleBytes, Window};
+use image_commands::{Axes, Change, Quarter, SampleBytes, Window};
 use texts::{Field, Parts, next};
 
 /// Which pixels of a frame the window of an edit has.

@@ -6,8 +6,8 @@ use Rattle.std.proofs.lemmas.List.Folds.{list_all_at}
 use Rattle.std.proofs.lemmas.Option.{slice_get-get_or}
 use Rattle.frame_edits.specs.declared.words.Edit.{Edit}
 use Rattle.frame_formats.specs.Suits.{TellsBad}
-use Rattle.frame_formats.specs.declared.suits.Unsuited.{Unsuited}
-use Rattle.frame_formats.specs.declared.suits.Unsuited.TheVariants.{Edit as BadEdit, Size as BadSize}
+use Rattle.frame_edits.specs.declared.unsuited.Unsuited.{Unsuited}
+use Rattle.frame_edits.specs.declared.unsuited.Unsuited.TheVariants.{Edit as BadEdit, Size as BadSize}
 
 bad_there : (suits : Edit → Bool) (es : List Edit) (at : ℕ) → at < length es → IfSome (slice_get es at) (λ e. suits e ≡ false) → list_all suits es ≡ false
 bad_there suits [] at there bad = absurd (omega (arith, there))

@@ -7,11 +7,12 @@ use Rattle.std.proofs.lemmas.Nat.{le-div}
 use Rattle.text_model.proofs.Options.{some_is}
 use Rattle.text_model.specs.Reading.{◌>>=◌}
 use Rattle.image_planes.specs.Changes.{Job, is_job, job, job_for, names}
-use Rattle.image_planes.specs.Filled.{FillFirst, PlanesUnfilled, any_fills, fills, fills_first, spreads}
+use Rattle.image_commands.specs.Changes.{fills, spreads}
+use Rattle.image_planes.specs.Filled.{FillFirst, PlanesUnfilled, any_fills, fills_first}
 use Rattle.image_planes.specs.Resized.{Resizing, new_height, new_width}
 use Rattle.image_planes.specs.Unseen.{PlanesAlike}
-use Rattle.image_planes.specs.declared.change.Change.{Change}
-use Rattle.image_planes.specs.declared.change.Change.TheVariants.{Fill, Mosaic, Mean, Blur, Move, Flip}
+use Rattle.image_commands.specs.declared.changes.Change.{Change}
+use Rattle.image_commands.specs.declared.changes.Change.TheVariants.{Fill, Mosaic, Mean, Blur, Move, Flip}
 use Rattle.image_planes.specs.declared.change.Step.{Step}
 use Rattle.image_planes.specs.declared.target.Resize.{Resize}
 use Rattle.frame_edits.specs.Covers.{frames_for, one_pixel, settled_by, turns_over, video_unit}

@@ -3,7 +3,7 @@ use Rattle.std.proofs.Common.{◌≡◌, ◌≢◌, ℕ, zero, suc, arith, ◌+�
 use Rattle.std.specs.Option.{option_map}
 use Rattle.std.proofs.lemmas.List.{append-nil, at_drop_more, at_drop_all}
 use Rattle.text_model.specs.Reading.{◌>>=◌}
-use Rattle.image_planes.specs.declared.change.Change.{Change}
+use Rattle.image_commands.specs.declared.changes.Change.{Change}
 use Rattle.image_planes.specs.declared.change.Step.{Step}
 use Rattle.frame_edits.specs.Covers.{frames_for, settled_by}
 use Rattle.frame_formats.specs.Steps.{step_in}

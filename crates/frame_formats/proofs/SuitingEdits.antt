@@ -7,7 +7,7 @@ use Rattle.text_model.proofs.Options.{bind_some, map_some, some_is, guard_some}
 use Rattle.text_model.specs.Reading.{◌>>=◌}
 use Rattle.image_planes.specs.Changes.{Job, are_inside, is_change_of, job_for}
 use Rattle.image_planes.specs.Resized.{Resizing, new_height, new_width}
-use Rattle.image_planes.specs.declared.change.Change.{Change}
+use Rattle.image_commands.specs.declared.changes.Change.{Change}
 use Rattle.image_planes.specs.declared.change.Step.{Step}
 use Rattle.image_planes.specs.declared.target.Resize.{Resize}
 use Rattle.frame_heads.specs.Format.{format_of, is_upright}

@@ -2,8 +2,8 @@
 use Rattle.std.specs.Prelude.{ℕ, ◌+◌, ◌/◌, ◌%◌, ◌&&◌, ◌==◌, ◌||◌, Bool, if◌then◌else◌, List, Option, Some, None}
 use Rattle.image_shape.specs.declared.window.Window.{Window}
 use Rattle.text_model.specs.Reading.{◌>>=◌}
-use Rattle.image_planes.specs.declared.change.Change.{Change}
-use Rattle.image_planes.specs.declared.change.Change.TheVariants.{Fill, Mosaic, Mean, Blur, Move, Flip}
+use Rattle.image_commands.specs.declared.changes.Change.{Change}
+use Rattle.image_commands.specs.declared.changes.Change.TheVariants.{Fill, Mosaic, Mean, Blur, Move, Flip}
 use Rattle.frame_formats.specs.Steps.{no_colour}
 use Rattle.frame_heads.specs.declared.pixel.Pixel.{Pixel}
 

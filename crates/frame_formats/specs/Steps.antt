@@ -3,9 +3,10 @@ use Rattle.std.specs.Prelude.{◌≢◌, ◌<◌, ℕ, length, ◌+◌, ◌/◌,
 use Rattle.std.specs.List.{flat_map}
 use Rattle.std.specs.Option.{option_map}
 use Rattle.text_model.specs.Reading.{◌>>=◌}
-use Rattle.image_planes.specs.Samples.{SampleBytes, One, LowFirst, HighFirst}
-use Rattle.image_planes.specs.declared.change.Change.{Change}
-use Rattle.image_planes.specs.declared.change.Change.TheVariants.{Fill, Mosaic, Mean, Blur, Move, Flip}
+use Rattle.image_shape.specs.declared.samples.SampleBytes.{SampleBytes}
+use Rattle.image_shape.specs.declared.samples.SampleBytes.TheVariants.{One, LowFirst, HighFirst}
+use Rattle.image_commands.specs.declared.changes.Change.{Change}
+use Rattle.image_commands.specs.declared.changes.Change.TheVariants.{Fill, Mosaic, Mean, Blur, Move, Flip}
 use Rattle.image_planes.specs.declared.change.Step.{Step}
 use Rattle.frame_heads.specs.declared.pixel.Pixel.{Pixel}
 use Rattle.frame_edits.specs.declared.paint.Paint.{Paint}

@@ -4,7 +4,7 @@ use Rattle.std.specs.List.{list_all, slice_get}
 use Rattle.std.specs.Option.{is_some}
 use Rattle.image_planes.specs.Changes.{is_change_of}
 use Rattle.image_planes.specs.Resized.{new_height}
-use Rattle.image_planes.specs.declared.change.Change.{Change}
+use Rattle.image_commands.specs.declared.changes.Change.{Change}
 use Rattle.image_planes.specs.declared.change.Step.{Step}
 use Rattle.image_planes.specs.declared.target.Resize.{Resize}
 use Rattle.frame_heads.specs.Format.{is_upright}
@@ -23,8 +23,8 @@ use Rattle.frame_formats.specs.Framings.{resize_for}
 use Rattle.frame_formats.specs.Layers.{change_on, layer_height, layer_width, picture_layers, picture_pixel, resizing_on, video_layers}
 use Rattle.frame_formats.specs.Steps.{step_in}
 use Rattle.frame_formats.specs.declared.layers.Layer.{Layer}
-use Rattle.frame_formats.specs.declared.suits.Unsuited.{Unsuited}
-use Rattle.frame_formats.specs.declared.suits.Unsuited.TheVariants.{Edit as BadEdit, Size as BadSize}
+use Rattle.frame_edits.specs.declared.unsuited.Unsuited.{Unsuited}
+use Rattle.frame_edits.specs.declared.unsuited.Unsuited.TheVariants.{Edit as BadEdit, Size as BadSize}
 
 -- a change of a plane is there, and valid for its size
 abbrev pub is_valid : ℕ → ℕ → Option (Change (List ℕ)) → Bool

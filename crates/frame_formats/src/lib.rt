@@ -16,4 +16,4 @@ pub use frame_heads::{Kind, Picture, read_format};
 pub use frame_lists::WordsFault;
 pub use hiding::recipes_hide;
 pub use plans::{Plan, PlanFault};
-pub use suits::{Unsuited, unsuited_in_picture, unsuited_in_video};
+pub use suits::{unsuited_in_picture, unsuited_in_video};

@@ -12,18 +12,9 @@ use crate::layers::{
     Layer, change_on, picture_layers, picture_pixel, size_on, target_on, video_layers,
 };
 use crate::settling::{step_of, unit_of_picture};
-use frame_edits::{Edit, Framing, Unit, unit_of_video};
+use frame_edits::{Edit, Framing, Unit, Unsuited, unit_of_video};
 use frame_heads::{Format, Picture, Pixel, Rate};
 use image_planes::is_inside;
-
-/// What isn't one of a frame.
-#[derive(Clone, Copy, PartialEq, Eq)]
-pub enum Unsuited {
-    /// The edit of this number, counted from 0.
-    Edit(usize),
-    /// What becomes of the size.
-    Size,
-}
 
 // A frame: its unit and its rate, what its pixels and its planes are, and its size.
 #[derive(Clone, Copy)]

@@ -1,8 +1,8 @@
 -- A rectangle of the output has the pixels that come from the rectangle of the frame.
 use Rattle.std.proofs.Common.{◌≡◌, ◌≤◌, ◌<◌, ◌+◌, ◌-◌, ◌&&◌, ℕ, Bool, true, false, nat_le, nat_lt, if◌then◌else◌, Some, None, refl, sym, ap, ◌∙◌, arith, inl, inr}
 use Rattle.std.proofs.lemmas.Bool.{cases_lt}
-use Rattle.image_planes.specs.declared.change.Axes.TheVariants.{Rows, Columns, Both}
-use Rattle.image_planes.specs.declared.target.Quarter.TheVariants.{Right, Left}
+use Rattle.image_commands.specs.declared.changes.Axes.TheVariants.{Rows, Columns, Both}
+use Rattle.image_commands.specs.declared.changes.Quarter.TheVariants.{Right, Left}
 use Rattle.image_shape.specs.declared.window.Window.{Window}
 use Rattle.frame_edits.specs.declared.framing.Framing.TheVariants.{Crop, Pad, Turn}
 use Rattle.frame_messages.specs.Placed.{BorderFits, FlipsPixels, FramesPixels, IsWithin, before_framing, common, framed_in, has, has_at, sum_or_most}

@@ -2,7 +2,6 @@ pub mod Bare
 pub mod Ending
 pub mod Lines
 pub mod Placed
-pub mod Reasons
 pub mod Report
 pub mod Told
 pub mod Unreached

@@ -1,9 +1,9 @@
 -- Where the output has a rectangle of a frame.
 use Rattle.std.specs.Prelude.{◌≡◌, ◌≤◌, ◌<◌, ℕ, ◌+◌, ◌-◌, ◌&&◌, Bool, false, min, nat_le, nat_lt, if◌then◌else◌, Option, Some, None}
-use Rattle.image_planes.specs.declared.change.Axes.{Axes}
-use Rattle.image_planes.specs.declared.change.Axes.TheVariants.{Rows, Columns, Both}
-use Rattle.image_planes.specs.declared.target.Quarter.{Quarter}
-use Rattle.image_planes.specs.declared.target.Quarter.TheVariants.{Right, Left}
+use Rattle.image_commands.specs.declared.changes.Axes.{Axes}
+use Rattle.image_commands.specs.declared.changes.Axes.TheVariants.{Rows, Columns, Both}
+use Rattle.image_commands.specs.declared.changes.Quarter.{Quarter}
+use Rattle.image_commands.specs.declared.changes.Quarter.TheVariants.{Right, Left}
 use Rattle.image_shape.specs.declared.window.Window.{Window}
 use Rattle.frame_edits.specs.declared.framing.Framing.{Framing}
 use Rattle.frame_edits.specs.declared.framing.Framing.TheVariants.{Crop, Pad, Turn}

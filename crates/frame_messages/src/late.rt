@@ -9,7 +9,7 @@ use crate::places::Places;
 use crate::ranges::Noted;
 use frame_edits::{Edit, Paint};
 use frame_requests::{Hiding, late_pairs};
-use image_planes::Change;
+use image_commands::Change;
 use std::alloc::AllocError;
 use std::io;
 use std::io::Write;

@@ -24,6 +24,6 @@ pub use ending::{Ending, Found, ending_of, order_status, tell_found};
 pub use notes::say_boxes;
 pub use places::Texts;
 pub use ranges::Noted;
-pub use reasons::{say_no_words, say_reason};
+pub use reasons::{say_no_words, say_outside, say_reason};
 pub use report::{Bare, write_report};
 pub use shared::say_shared;

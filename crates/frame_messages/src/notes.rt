@@ -1,7 +1,7 @@
 //! Notes of one kind, or the lines of one fault, of which only the first are printed.
 
 use frame_edits::Paint;
-use image_planes::Change;
+use image_commands::Change;
 use std::io;
 use std::io::Write;
 

@@ -4,7 +4,7 @@ ghost use Rattle.std.specs.Prelude.{◌≡◌, ◌-◌, ℕ};
 ghost use Rattle.frame_messages.specs.Placed.{common, cropped_in, flipped_in, framed_in, turned_in};
 
 use frame_edits::Framing;
-use image_planes::{Axes, Quarter, Window};
+use image_commands::{Axes, Quarter, Window};
 
 // Where a stretch of pixels begins, counted from the other end of a row or a column of so many.
 fn from_end(start: usize, count: usize, len: usize) -> usize

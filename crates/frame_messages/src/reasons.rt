@@ -2,19 +2,15 @@
 //!
 //! Which edit is bad is decided by the crate that makes plans. Here it is only told why.
 
-ghost use Rattle.frame_edits.specs.Lists.{plain};
-ghost use Rattle.frame_messages.specs.Reasons.{TellsBadOf};
-
 use crate::bad_boxes::say_bad_box;
 use crate::bad_edits::{say_bad_line, say_bad_word};
 use crate::beginnings::shown;
 use crate::places::{Texts, say_place};
 use crate::ranges::say_no_frames;
-use frame_edits::{Edit, Edits, Framing, Paint, Scope, turns_over};
-use frame_formats::{Unsuited, unsuited_in_picture, unsuited_in_video};
+use frame_edits::{Edit, Edits, Framing, Paint, Scope, Unsuited, turns_over};
 use frame_heads::{Format, Kind, Picture};
 use frame_requests::{Misread, Refusal, RunFault, Seen, Shape};
-use image_planes::{Change, Window};
+use image_commands::{Change, Window};
 
 // A frame: its size, how many columns and rows of pixels share a chroma sample, and the greatest
 // value of a sample.
@@ -268,18 +264,6 @@ fn say_wrong(rt: &HostRuntime, wrong: Option<Wrong>) {
     };
 }
 
-// What isn't one of a frame of this shape.
-fn find_unsuited(shape: Shape, edits: &Edits) -> Option<Unsuited>
-    ensures { TellsBadOf shape (plain edits.now) result }
-{
-    match shape {
-        Shape::Video(format, rate) => {
-            unsuited_in_video(format, rate, &edits.steps, edits.framing)
-        }
-        Shape::Picture(picture) => unsuited_in_picture(picture, &edits.steps, edits.framing),
-    }
-}
-
 // Prints what is wrong with the edit of this number.
 fn say_bad_edit(rt: &HostRuntime, frame: Frame, number: usize, edits: &Edits, texts: Texts<'_>) {
     say_place(rt, texts.places(rt.alloc()).find(number));
@@ -299,34 +283,34 @@ fn say_bad_size(rt: &HostRuntime, frame: Frame, framing: Framing) {
     say_wrong(rt, check_framing(frame, framing));
 }
 
-fn say_outside(rt: &HostRuntime, shape: Shape, edits: &Edits, texts: Texts<'_>) {
+/// Prints what isn't one of the frame, the size of the frame, and what is wrong.
+pub fn say_outside(
+    rt: &HostRuntime,
+    seen: &Seen,
+    unsuited: Option<Unsuited>,
+    edits: &Edits,
+    texts: Texts<'_>,
+) {
+    if say_no_frames(rt, seen.rate(), &edits.steps, texts) {
+        return;
+    }
+    let Some(shape) = seen.shape() else {
+        return;
+    };
     let frame = Frame::of(shape);
     let _ = eprintln!(rt; "the frame has {} by {} pixels", frame.width, frame.height);
-    match (find_unsuited(shape, edits), edits.framing) {
+    match (unsuited, edits.framing) {
         (Some(Unsuited::Edit(number)), _) => say_bad_edit(rt, frame, number, edits, texts),
         (Some(Unsuited::Size), Some(framing)) => say_bad_size(rt, frame, framing),
         _ => say_wrong(rt, None),
     }
 }
 
-/// Prints why the run ended: which edit, the size of the frame, and what is wrong.
-pub fn say_reason(
-    rt: &HostRuntime,
-    fault: RunFault,
-    seen: &Seen,
-    limit: usize,
-    edits: &Edits,
-    texts: Texts<'_>,
-) {
+/// Prints why the run ended, where no edit is the reason.
+pub fn say_reason(rt: &HostRuntime, fault: RunFault, seen: &Seen, limit: usize) {
     let _ = match fault {
-        RunFault::Outside => {
-            if !say_no_frames(rt, seen.rate(), &edits.steps, texts) {
-                if let Some(shape) = seen.shape() {
-                    say_outside(rt, shape, edits, texts);
-                }
-            }
-            Ok(())
-        }
+        // `say_outside` tells it.
+        RunFault::Outside => Ok(()),
         RunFault::Memory(_) => {
             if let Some(shape) = seen.shape() {
                 let (width, height) = shape.size();

@@ -15,7 +15,7 @@ use frame_edits::{Edit, Edits, Framing, Paint, Scope};
 use frame_heads::Rate;
 use frame_lists::Range;
 use frame_requests::{Seen, Shape};
-use image_planes::{Change, Window};
+use image_commands::{Change, Window};
 use std::alloc::{AllocError, Global};
 use std::io;
 use std::io::Write;

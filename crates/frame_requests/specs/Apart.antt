@@ -3,16 +3,12 @@ use Rattle.std.specs.Prelude.{◌≡◌, ℕ, ◌==◌, ◌&&◌, ◌||◌, Bool
 use Rattle.std.specs.List.{slice_get}
 use Rattle.std.specs.Option.{is_none}
 use Rattle.std.specs.Str.{bytes_eq}
-use Rattle.frame_requests.specs.declared.apart.FileId.{FileId}
+use Rattle.devices.specs.FileIds.{are_one}
+use Rattle.devices.specs.declared.file_ids.FileId.{FileId}
 use Rattle.frame_requests.specs.declared.apart.Files.{Files}
 use Rattle.frame_requests.specs.declared.apart.Role.{Role}
 use Rattle.frame_requests.specs.declared.apart.Role.TheVariants.{Input, Edits, Boxes, Output, Report}
 use Rattle.frame_requests.specs.declared.options.Options.{Options}
-
--- one file: of one device, with one inode; or one that isn't there, by its folder and its name
-abbrev pub are_one : Option FileId → Option FileId → Bool
-are_one (Some a) (Some b) = a.device == b.device && (a.inode == b.inode && bytes_eq a.name.now b.name.now)
-are_one _ _ = false
 
 abbrev pub file_of : Files → Role → Option FileId
 file_of f Input = f.input

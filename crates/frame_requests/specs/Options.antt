@@ -3,7 +3,7 @@ use Rattle.std.specs.Prelude.{◌≡◌, ℕ, ◌+◌, ◌==◌, ◌&&◌, ◌||
 use Rattle.std.specs.Option.{is_none, is_some, option_map}
 use Rattle.std.specs.Str.{bytes_eq}
 use Rattle.text_model.specs.Reading.{number_of}
-use Rattle.image_planes.specs.declared.change.Change.{Change}
+use Rattle.image_commands.specs.declared.changes.Change.{Change}
 use Rattle.frame_edits.specs.Words.{way_of}
 use Rattle.frame_edits.specs.declared.paint.Paint.{Paint}
 use Rattle.frame_heads.specs.Names.{value_named}

@@ -7,7 +7,7 @@ use Rattle.text_model.specs.Reading.{is_nil}
 use Rattle.frame_edits.specs.Edits.{Edits, edits}
 use Rattle.frame_edits.specs.Lists.{AreEdits, HaveEdits, NeedsMemory, NeedsPlace, framing_after, with_lines}
 use Rattle.frame_edits.specs.Words.{Named}
-use Rattle.image_planes.specs.Scratch.{is_blur}
+use Rattle.image_commands.specs.Changes.{is_blur}
 use Rattle.frame_lists.specs.declared.ranges.Range.{Range}
 use Rattle.frame_lists.specs.declared.ranges.Range.TheVariants.{Frames, Times}
 use Rattle.frame_edits.specs.declared.words.Edit.{Edit}

@@ -2,19 +2,10 @@
 //! twice.
 
 ghost use Rattle.std.specs.Prelude.{◌≡◌, IfSome, None, map};
-ghost use Rattle.frame_requests.specs.Apart.{AreApart, IsShared, are_one, is_dash, reads_input_twice};
+ghost use Rattle.frame_requests.specs.Apart.{AreApart, IsShared, is_dash, reads_input_twice};
 
 use crate::options::Options;
-
-/// A file by its device and its inode. One that isn't there yet has those of its folder, and its name
-/// there.
-#[derive(Clone, Copy)]
-pub struct FileId<'a> {
-    pub device: u64,
-    pub inode: u64,
-    /// The name in its folder of a file that isn't there. Otherwise it is empty.
-    pub name: &'a [u8],
-}
+use devices::{FileId, are_one};
 
 /// What a file is for.
 #[derive(Clone, Copy, PartialEq, Eq)]
@@ -36,16 +27,6 @@ pub struct Files<'a> {
     pub report: Option<FileId<'a>>,
     /// Whether the output is a new file that gets its name at the end. It may be that of the input.
     pub is_renamed: bool,
-}
-
-/// Whether two files are one.
-pub fn are_one(a: Option<FileId<'_>>, b: Option<FileId<'_>>) -> bool
-    ensures { result ≡ are_one a.entry b.entry }
-{
-    match (a, b) {
-        (Some(a), Some(b)) => a.device == b.device && a.inode == b.inode && *a.name == *b.name,
-        _ => false,
-    }
 }
 
 /// Two files of a run that are one, of which the first is written. Nothing that is read or written may

@@ -6,7 +6,7 @@ ghost use Rattle.frame_requests.specs.Late.{hides, hiding_from, is_early, is_lat
 
 use frame_edits::{Edit, Paint};
 use frame_lists::Range;
-use image_planes::Change;
+use image_commands::Change;
 use std::alloc::{AllocError, Global};
 
 /// What an edit hides that comes too late.

@@ -11,7 +11,7 @@ mod options;
 mod seen;
 mod words;
 
-pub use apart::{FileId, Files, Role, are_one, reads_input_twice, shared_file};
+pub use apart::{Files, Role, reads_input_twice, shared_file};
 pub use asked::edits_asked;
 pub use fault::RunFault;
 pub use late::{Hiding, late_pairs};

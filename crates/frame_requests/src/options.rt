@@ -6,7 +6,7 @@ ghost use Rattle.frame_requests.specs.Options.{AreMisread, AreOptions, alone_of,
 
 use frame_edits::{Paint, read_way};
 use frame_heads::value_named;
-use image_planes::Change;
+use image_commands::Change;
 use texts::Field;
 
 /// How many bytes all buffers may have, where no option tells another number: 1 GiB.

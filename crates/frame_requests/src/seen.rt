@@ -8,7 +8,7 @@ use frame_edits::{
     Edit, picture_covers_nothing, picture_window, video_covers_nothing, video_window,
 };
 use frame_heads::{Format, Picture, Rate};
-use image_planes::Window;
+use image_commands::Window;
 use std::alloc::Global;
 
 /// What a line or a header tells of frames.

@@ -10,7 +10,7 @@ ghost use Rattle.text_model.specs.Parts.{parts_of};
 use crate::options::Misread;
 use frame_edits::{Edit, Edits};
 use frame_lists::{Range, WordsFault};
-use image_planes::Change;
+use image_commands::Change;
 use std::alloc::Global;
 use std::{env, io};
 

@@ -10,3 +10,4 @@ pub mod Request
 pub mod Seen
 pub mod Stream
 pub mod Video
+pub mod Unsuited

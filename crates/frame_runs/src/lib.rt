@@ -9,5 +9,7 @@ mod frames;
 mod pictures;
 mod program;
 mod request;
+mod unsuited;
 
 pub use program::run;
+pub use unsuited::unsuited_in_frame;

@@ -1,2 +1,3 @@
 pub mod PlaceTests
 pub mod Commands
+pub mod Changes

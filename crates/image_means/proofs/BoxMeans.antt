@@ -9,8 +9,8 @@ use Rattle.image_shape.specs.Shape.{shaped}
 use Rattle.image_shape.specs.declared.shape.Shape.{Shape}
 use Rattle.image_means.specs.Blur.{sum_at, column_upto, box_first, box_end, box_sum, box_mean, sums_mean, BlursRow}
 use Rattle.image_means.specs.Means.{sum_upto, mean_of, rounded_mean, sample_cells, sample_start, cell_number, byte_of, sample_in, sample_at}
-use Rattle.image_means.specs.declared.means.SampleBytes.{SampleBytes}
-use Rattle.image_means.specs.declared.means.SampleBytes.TheVariants.{One, LowFirst, HighFirst}
+use Rattle.image_shape.specs.declared.samples.SampleBytes.{SampleBytes}
+use Rattle.image_shape.specs.declared.samples.SampleBytes.TheVariants.{One, LowFirst, HighFirst}
 use Rattle.image_means.proofs.Rounding.{sum_same, mean_same}
 use Rattle.image_means.proofs.Samples.{sample_same, second_within, whole_pixels}
 use Rattle.image_means.proofs.BoxSums.{pixel_of, sample_there, is_sum}

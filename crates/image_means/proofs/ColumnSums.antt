@@ -5,8 +5,8 @@ use Rattle.std.specs.List.{slice_get}
 use Rattle.image_model.proofs.Cells.{slice_get-take, slice_get-drop}
 use Rattle.image_means.specs.Blur.{column_upto, sum_at}
 use Rattle.image_means.specs.Means.{sum_upto, number_in, sample_cells, sample_in, sample_number}
-use Rattle.image_means.specs.declared.means.SampleBytes.{SampleBytes}
-use Rattle.image_means.specs.declared.means.SampleBytes.TheVariants.{One, LowFirst, HighFirst}
+use Rattle.image_shape.specs.declared.samples.SampleBytes.{SampleBytes}
+use Rattle.image_shape.specs.declared.samples.SampleBytes.TheVariants.{One, LowFirst, HighFirst}
 use Rattle.image_means.proofs.Rounding.{sum_next}
 use Rattle.image_means.proofs.Samples.{sample_same}
 

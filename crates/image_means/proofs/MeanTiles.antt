@@ -17,7 +17,7 @@ use Rattle.image_shape.specs.Shape.{shaped, shaped_grid}
 use Rattle.image_shape.specs.declared.shape.Shape.{Shape}
 use Rattle.image_writes.specs.Mosaic.{mosaic_by, shown_column}
 use Rattle.image_means.specs.Means.{sum_upto, mean_of, tile_columns, sample_cells, sample_start, cell_number, sample_in, sample_at, sample_mean, mean_cell, sample_mosaic_by, row_mean, row_cell, PutsCells, BeginsWith}
-use Rattle.image_means.specs.declared.means.SampleBytes.{SampleBytes}
+use Rattle.image_shape.specs.declared.samples.SampleBytes.{SampleBytes}
 use Rattle.image_means.proofs.Samples.{whole_pixels, second_within, sum_whole, starts_here, start_whole, start_within, sample_same}
 use Rattle.image_writes.proofs.Corners.{start_of, start_starts, IsReached, none_reached, later_reached, next_reached}
 use Rattle.image_means.proofs.Rounding.{sum_same, sum_within, mean_same, some_pixels, divided_within}

@@ -3,8 +3,8 @@ use Rattle.std.proofs.Common.{◌≡◌, ℕ, ◌+◌, ◌-◌, ◌*◌, ◌/◌
 use Rattle.std.specs.Option.{option_map_or}
 use Rattle.std.proofs.Math.Nat.{mul_left_comm}
 use Rattle.image_means.specs.Means.{sample_cells, sample_start, sample_number, byte_of, cell_number, AreBytes}
-use Rattle.image_means.specs.declared.means.SampleBytes.{SampleBytes}
-use Rattle.image_means.specs.declared.means.SampleBytes.TheVariants.{One, LowFirst, HighFirst}
+use Rattle.image_shape.specs.declared.samples.SampleBytes.{SampleBytes}
+use Rattle.image_shape.specs.declared.samples.SampleBytes.TheVariants.{One, LowFirst, HighFirst}
 
 -- ---- where they begin
 

@@ -9,7 +9,7 @@ use Rattle.image_means.specs.Blur.{box_sum, box_first, box_end, pixels_upto, sum
 use Rattle.image_means.specs.Division.{factor_of}
 use Rattle.image_means.specs.Means.{rounded_mean, sample_cells, sample_number, cell_number}
 use Rattle.image_means.specs.declared.blur.Place.{Place}
-use Rattle.image_means.specs.declared.means.SampleBytes.{SampleBytes}
+use Rattle.image_shape.specs.declared.samples.SampleBytes.{SampleBytes}
 use Rattle.image_means.proofs.Factors.{small, mean_by_factor, product_fits}
 use Rattle.image_means.proofs.Rounding.{some_pixels, rounded_within}
 use Rattle.image_means.proofs.Samples.{of_bytes, sample_short}

@@ -13,7 +13,7 @@ use Rattle.image_model.proofs.Tiles.{tile_begins}
 use Rattle.image_writes.specs.Mosaic.{shown_column}
 use Rattle.image_means.specs.LineSums.{lines_sum, pixels_sum, sums_cell, AreLineSums}
 use Rattle.image_means.specs.Means.{number_in, rounded_mean, sum_upto, tile_columns, row_cell, PutsCells}
-use Rattle.image_means.specs.declared.means.SampleBytes.TheVariants.{One}
+use Rattle.image_shape.specs.declared.samples.SampleBytes.TheVariants.{One}
 use Rattle.image_means.proofs.ColumnSums.{sum_exchanged}
 use Rattle.image_means.proofs.Rounding.{sum_same}
 

@@ -9,7 +9,7 @@ use Rattle.image_means.specs.Division.{factor_of}
 use Rattle.image_means.specs.Means.{mean_of, rounded_mean, sample_at, sample_cells, sample_in, sample_number, sample_start, cell_number, sum_upto}
 use Rattle.image_means.specs.declared.blur.Blur.{Blur}
 use Rattle.image_means.specs.declared.blur.Place.{Place}
-use Rattle.image_means.specs.declared.means.SampleBytes.{SampleBytes}
+use Rattle.image_shape.specs.declared.samples.SampleBytes.{SampleBytes}
 
 -- where the box around a place begins
 abbrev pub box_first : ℕ → ℕ → ℕ

@@ -6,8 +6,8 @@ use Rattle.image_model.specs.Tiles.{tile_count, tile_start}
 use Rattle.image_writes.specs.Mosaic.{shown_column}
 use Rattle.image_means.specs.declared.lines.Lines.{Lines}
 use Rattle.image_means.specs.declared.lines.Tile.{Tile}
-use Rattle.image_means.specs.declared.means.SampleBytes.{SampleBytes}
-use Rattle.image_means.specs.declared.means.SampleBytes.TheVariants.{One, LowFirst, HighFirst}
+use Rattle.image_shape.specs.declared.samples.SampleBytes.{SampleBytes}
+use Rattle.image_shape.specs.declared.samples.SampleBytes.TheVariants.{One, LowFirst, HighFirst}
 
 -- f 0 + f 1 + .., so many of them
 abbrev pub sum_upto : ℕ → (ℕ → ℕ) → ℕ

@@ -13,9 +13,9 @@ ghost use Rattle.image_means.specs.Division.{factor_of};
 ghost use Rattle.image_means.specs.Means.{sample_cells, sample_in, sample_number};
 
 use crate::division::{factor_of, mean_by, quotient_by};
-use crate::means::{SampleBytes, sample_from};
+use crate::means::sample_from;
 use image_ops::fill_cells;
-use image_shape::{Shape, Window};
+use image_shape::{SampleBytes, Shape, Window};
 use image_writes::exact_part;
 use std::ops::Range;
 

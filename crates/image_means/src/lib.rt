@@ -11,4 +11,5 @@ mod means;
 mod tile_sums;
 
 pub use blur::blur_samples;
-pub use means::{Sample, SampleBytes, mean_samples, mean_window};
+pub use image_shape::SampleBytes;
+pub use means::{Sample, mean_samples, mean_window};

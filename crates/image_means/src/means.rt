@@ -14,7 +14,7 @@ ghost use Rattle.image_writes.specs.Written.{Becomes};
 use crate::lines::{Lines, Tile};
 use crate::tile_sums::{ROOM, put_by_sums};
 use image_ops::{mosaic_cells, next_line};
-use image_shape::{Shape, Stretch, Window, tiles_along};
+use image_shape::{SampleBytes, Shape, Stretch, Window, tiles_along};
 use image_writes::exact_part;
 
 /// A cell that is a number of at most 16 bits, of which a mean can be taken.
@@ -88,17 +88,6 @@ impl Sample for u16 {
     }
 
     ghost short = { Prim.search rules };
-}
-
-/// The cells of a sample, next to one another in a row.
-#[derive(Clone, Copy, PartialEq, Eq)]
-pub enum SampleBytes {
-    /// Each cell is a sample.
-    One,
-    /// Two bytes, the low one first.
-    LowFirst,
-    /// Two bytes, the high one first.
-    HighFirst,
 }
 
 // Whether a sample begins at this column.

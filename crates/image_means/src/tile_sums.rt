@@ -7,7 +7,7 @@ ghost use Rattle.image_model.specs.Tiles.{tile_count};
 ghost use Rattle.image_means.specs.Division.{factor_of};
 ghost use Rattle.image_means.specs.LineSums.{pixels_sum, sums_cell, AddsNumbers, AreLineSums, HaveNarrowTiles, AreTileSums};
 ghost use Rattle.image_means.specs.Means.{number_in, rounded_mean, AreLines, PutsCells, PutsMeans};
-ghost use Rattle.image_means.specs.declared.means.SampleBytes.{SampleBytes};
+ghost use Rattle.image_shape.specs.declared.samples.SampleBytes.{SampleBytes};
 
 use crate::division::{factor_of, mean_by};
 use crate::lines::{Lines, Tile};

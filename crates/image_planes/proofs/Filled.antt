@@ -4,10 +4,11 @@ use Rattle.std.specs.List.{list_any}
 use Rattle.image_model.specs.Grid.{Grid, covers}
 use Rattle.image_planes.specs.Changes.{Job, job_len, plane_grid, names}
 use Rattle.image_planes.specs.Unseen.{GridsAlike, PlanesAlike, hidden_by, is_hidden}
-use Rattle.image_planes.specs.Filled.{FillFirst, GridsUnfilled, PlanesUnfilled, any_fills, filled_by, fills, fills_first, is_filled, spreads}
-use Rattle.image_planes.specs.declared.change.Change.{Change}
-use Rattle.image_planes.specs.declared.change.Change.TheVariants.{Fill, Mosaic, Mean, Blur, Move, Flip}
-use Rattle.image_planes.specs.declared.change.Axes.TheVariants.{Rows, Columns, Both}
+use Rattle.image_commands.specs.Changes.{fills, spreads}
+use Rattle.image_planes.specs.Filled.{FillFirst, GridsUnfilled, PlanesUnfilled, any_fills, filled_by, fills_first, is_filled}
+use Rattle.image_commands.specs.declared.changes.Change.{Change}
+use Rattle.image_commands.specs.declared.changes.Change.TheVariants.{Fill, Mosaic, Mean, Blur, Move, Flip}
+use Rattle.image_commands.specs.declared.changes.Axes.TheVariants.{Rows, Columns, Both}
 use Rattle.image_planes.specs.declared.change.Step.{Step}
 
 both_true : (a b : Bool) → a && b ≡ true → (a ≡ true) × (b ≡ true)

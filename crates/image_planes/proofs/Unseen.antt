@@ -14,16 +14,16 @@ use Rattle.image_model.proofs.Grids.{same_grids, covers_decides}
 use Rattle.image_model.proofs.Tiles.{tile_start-is}
 use Rattle.image_means.specs.Blur.{blurred}
 use Rattle.image_means.specs.Means.{sample_mosaic}
-use Rattle.image_means.specs.declared.means.SampleBytes.{SampleBytes}
+use Rattle.image_shape.specs.declared.samples.SampleBytes.{SampleBytes}
 use Rattle.image_writes.specs.Mosaic.{mosaic_by, shown_column}
 use Rattle.image_writes.specs.Mirrored.{mirrored_by}
 use Rattle.image_ops.specs.Repeated.{repeated}
 use Rattle.image_planes.specs.Changes.{bytes_for, Job, job_len, in_bytes, changed, changed_plane, changed_planes, flipped_by, plane_grid, stepped, names}
 use Rattle.image_planes.specs.Unseen.{BoxesAlike, MadeAlike, MeansAlike, PlanesAlike, hidden_by, is_hidden, is_corner}
-use Rattle.image_planes.specs.declared.change.Change.{Change}
-use Rattle.image_planes.specs.declared.change.Change.TheVariants.{Fill, Mosaic, Mean, Blur, Move, Flip}
-use Rattle.image_planes.specs.declared.change.Axes.{Axes}
-use Rattle.image_planes.specs.declared.change.Axes.TheVariants.{Rows, Columns, Both}
+use Rattle.image_commands.specs.declared.changes.Change.{Change}
+use Rattle.image_commands.specs.declared.changes.Change.TheVariants.{Fill, Mosaic, Mean, Blur, Move, Flip}
+use Rattle.image_commands.specs.declared.changes.Axes.{Axes}
+use Rattle.image_commands.specs.declared.changes.Axes.TheVariants.{Rows, Columns, Both}
 use Rattle.image_planes.specs.declared.change.Step.{Step}
 use Rattle.image_planes.proofs.Flips.{mirror, mirror_pixel}
 use Rattle.image_planes.proofs.Parts.{whole_pixels}

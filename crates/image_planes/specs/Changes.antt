@@ -9,18 +9,18 @@ use Rattle.image_model.specs.Windows as model
 use Rattle.image_shape.specs.Window.{as_window}
 use Rattle.image_means.specs.Blur.{blurred}
 use Rattle.image_means.specs.Means.{sample_mosaic}
-use Rattle.image_means.specs.declared.means.SampleBytes.{SampleBytes}
-use Rattle.image_means.specs.declared.means.SampleBytes.TheVariants.{One}
+use Rattle.image_shape.specs.declared.samples.SampleBytes.{SampleBytes}
+use Rattle.image_shape.specs.declared.samples.SampleBytes.TheVariants.{One}
 use Rattle.image_writes.specs.Mosaic.{mosaic_by}
 use Rattle.image_writes.specs.Mirrored.{mirrored_by}
 use Rattle.image_ops.specs.Repeated.{repeated}
 use Rattle.std.specs.List.{list_all}
 use Rattle.image_shape.specs.declared.window.Window.{Window}
-use Rattle.image_planes.specs.declared.change.Axes.{Axes}
-use Rattle.image_planes.specs.declared.change.Axes.TheVariants.{Rows, Columns, Both}
+use Rattle.image_commands.specs.declared.changes.Axes.{Axes}
+use Rattle.image_commands.specs.declared.changes.Axes.TheVariants.{Rows, Columns, Both}
 use Rattle.image_planes.specs.declared.change.Step.{Step}
-use Rattle.image_planes.specs.declared.change.Change.{Change}
-use Rattle.image_planes.specs.declared.change.Change.TheVariants.{Fill, Mosaic, Mean, Blur, Move, Flip}
+use Rattle.image_commands.specs.declared.changes.Change.{Change}
+use Rattle.image_commands.specs.declared.changes.Change.TheVariants.{Fill, Mosaic, Mean, Blur, Move, Flip}
 
 -- a window of pixels as one of bytes, where so many bytes next to one another are a pixel
 abbrev pub in_bytes : ℕ → Window → model.Window

@@ -3,27 +3,11 @@ use Rattle.std.specs.Prelude.{◌≡◌, ℕ, ◌-◌, ◌/◌, ◌&&◌, Bool, 
 use Rattle.std.specs.List.{list_any}
 use Rattle.image_model.specs.Grid.{Grid, covers}
 use Rattle.image_planes.specs.Changes.{Job, job_len, plane_grid, names}
-use Rattle.image_planes.specs.declared.change.Axes.TheVariants.{Rows, Columns, Both}
+use Rattle.image_commands.specs.Changes.{fills, spreads}
+use Rattle.image_commands.specs.declared.changes.Axes.TheVariants.{Rows, Columns, Both}
 use Rattle.image_planes.specs.declared.change.Step.{Step}
-use Rattle.image_planes.specs.declared.change.Change.{Change}
-use Rattle.image_planes.specs.declared.change.Change.TheVariants.{Fill, Mosaic, Mean, Blur, Move, Flip}
-
--- a change that may show a pixel, or something of it, at another place
-abbrev pub spreads : {V : Type 0} → Change V → Bool
-spreads (Fill w value) = false
-spreads (Mosaic w tile_width tile_height) = true
-spreads (Mean w tile_width tile_height bytes) = true
-spreads (Blur w across down bytes) = true
-spreads (Move w left top) = true
-spreads (Flip axes) = false
-
-abbrev pub fills : {V : Type 0} → Change V → Bool
-fills (Fill w value) = true
-fills (Mosaic w tile_width tile_height) = false
-fills (Mean w tile_width tile_height bytes) = false
-fills (Blur w across down bytes) = false
-fills (Move w left top) = false
-fills (Flip axes) = false
+use Rattle.image_commands.specs.declared.changes.Change.{Change}
+use Rattle.image_commands.specs.declared.changes.Change.TheVariants.{Fill, Mosaic, Mean, Blur, Move, Flip}
 
 -- one of the steps fills in the frame of this number
 abbrev pub any_fills : {V : Type 0} → ℕ → List (Step V) → Bool

@@ -8,8 +8,8 @@ use Rattle.image_ops.specs.Repeated.{repeated}
 use Rattle.image_planes.specs.Changes.{in_bytes, byte_grid, is_plane}
 use Rattle.image_planes.specs.declared.target.Resize.{Resize}
 use Rattle.image_planes.specs.declared.target.Resize.TheVariants.{Crop, Pad, Turn}
-use Rattle.image_planes.specs.declared.target.Quarter.{Quarter}
-use Rattle.image_planes.specs.declared.target.Quarter.TheVariants.{Right, Left}
+use Rattle.image_commands.specs.declared.changes.Quarter.{Quarter}
+use Rattle.image_commands.specs.declared.changes.Quarter.TheVariants.{Right, Left}
 use Rattle.image_turns.specs.Oriented.{oriented}
 use Rattle.image_turns.specs.declared.pixel_turning.Orientation.{Orientation}
 use Rattle.image_turns.specs.declared.pixel_turning.Orientation.TheVariants.{Right as TurnedRight, Left as TurnedLeft}

@@ -5,15 +5,11 @@ use Rattle.image_shape.specs.Shape.{shape_width, shape_height}
 use Rattle.image_shape.specs.declared.shape.Shape.{Shape}
 use Rattle.image_planes.specs.Changes.{Job, job_len, are_inside}
 use Rattle.image_planes.specs.Pixels.{HavePixels}
-use Rattle.image_planes.specs.declared.change.Change.{Change}
-use Rattle.image_planes.specs.declared.change.Change.TheVariants.{Blur}
+use Rattle.image_commands.specs.Changes.{is_blur}
+use Rattle.image_commands.specs.declared.changes.Change.{Change}
+use Rattle.image_commands.specs.declared.changes.Change.TheVariants.{Blur}
 use Rattle.image_planes.specs.declared.change.Step.{Step}
 use Rattle.image_planes.specs.declared.scratch.Scratch.{Scratch}
-
--- whether a change is a blur
-abbrev pub is_blur : {V : Type 0} → Change V → Bool
-is_blur (Blur w across down bytes) = true
-is_blur _ = false
 
 -- whether a step is one
 abbrev pub have_blur : List (Step (List ℕ)) → Bool

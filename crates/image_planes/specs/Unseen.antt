@@ -5,12 +5,12 @@ use Rattle.image_model.specs.Tiles.{tile_start}
 use Rattle.image_model.specs.Windows.{window_view}
 use Rattle.image_means.specs.Blur.{blurred}
 use Rattle.image_means.specs.Means.{sample_mosaic}
-use Rattle.image_means.specs.declared.means.SampleBytes.{SampleBytes}
+use Rattle.image_shape.specs.declared.samples.SampleBytes.{SampleBytes}
 use Rattle.image_planes.specs.Changes.{Job, bytes_for, in_bytes, job_len, plane_grid, names}
-use Rattle.image_planes.specs.declared.change.Axes.TheVariants.{Rows, Columns, Both}
+use Rattle.image_commands.specs.declared.changes.Axes.TheVariants.{Rows, Columns, Both}
 use Rattle.image_planes.specs.declared.change.Step.{Step}
-use Rattle.image_planes.specs.declared.change.Change.{Change}
-use Rattle.image_planes.specs.declared.change.Change.TheVariants.{Fill, Mosaic, Mean, Blur, Move, Flip}
+use Rattle.image_commands.specs.declared.changes.Change.{Change}
+use Rattle.image_commands.specs.declared.changes.Change.TheVariants.{Fill, Mosaic, Mean, Blur, Move, Flip}
 use Rattle.image_shape.specs.declared.window.Window.{Window}
 
 -- whether column x of row y is the corner of a tile, where tiles begin at the window's corner

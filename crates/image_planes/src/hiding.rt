@@ -2,9 +2,9 @@
 
 ghost use Rattle.std.specs.Prelude.{◌≡◌, ℕ, List};
 ghost use Rattle.image_model.specs.Grid.{Grid};
-ghost use Rattle.image_means.specs.declared.means.SampleBytes.{SampleBytes};
+ghost use Rattle.image_shape.specs.declared.samples.SampleBytes.{SampleBytes};
 ghost use Rattle.image_planes.specs.Changes.{Job, changed, changed_planes};
-ghost use Rattle.image_planes.specs.declared.change.Change.TheVariants.{Blur, Mean};
+ghost use Rattle.image_commands.specs.declared.changes.Change.TheVariants.{Blur, Mean};
 ghost use Rattle.image_shape.specs.declared.window.Window.{Window};
 ghost use Rattle.image_planes.specs.Filled.{FillFirst, PlanesUnfilled};
 ghost use Rattle.image_planes.specs.Unseen.{BoxesAlike, MeansAlike, PlanesAlike};

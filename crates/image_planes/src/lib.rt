@@ -11,11 +11,10 @@ mod spans;
 mod steps;
 mod target;
 
-pub use change::{Axes, Change, Step, Value};
+pub use change::{Step, Value};
 pub use hiding::changes_hide;
-pub use image_means::SampleBytes;
-pub use image_shape::Window;
+pub use image_commands::{Axes, Change, Quarter, SampleBytes, Window};
 pub use plane::{Plane, is_inside};
 pub use planes::{change_planes, planes_len, resize_planes, targets_len};
 pub use scratch::{Scratch, scratch_len};
-pub use target::{Quarter, Resize, Target};
+pub use target::{Resize, Target};

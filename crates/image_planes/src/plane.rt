@@ -7,9 +7,10 @@ ghost use Rattle.image_planes.specs.Changes.{is_change_of, is_plane, are_inside,
 ghost use Rattle.image_planes.specs.Scratch.{copy_len, sums_len, have_blur};
 ghost use Rattle.image_planes.specs.Spans.{are_spans, are_groups};
 
-use crate::change::{Change, Step, Value, is_blur};
+use crate::change::{Step, Value, is_blur};
 use crate::spans::{BLOCK, GROUP, Span, do_groups, spans_of};
 use crate::steps::all_inside;
+use image_commands::Change;
 use image_shape::{Shape, Window};
 use std::alloc::{AllocError, Global};
 

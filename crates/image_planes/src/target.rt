@@ -17,19 +17,11 @@ ghost use Rattle.image_planes.specs.Resized.{orientation_of, is_resize_of, new_w
 
 use crate::change::{Value, in_bytes};
 use crate::plane::is_plane;
+use image_commands::Quarter;
 use image_ops::{copy_pixels, copy_window, repeat_window};
 use image_shape::{Shape, Window};
 use image_turns::{Orientation, orient_pixels};
 use image_writes::padded_part;
-
-/// A turn by a quarter.
-#[derive(Clone, Copy, PartialEq, Eq)]
-pub enum Quarter {
-    /// Clockwise: the first row becomes the last column.
-    Right,
-    /// The other way: the first row becomes the first column, from the bottom.
-    Left,
-}
 
 /// A change of the size of a plane, in pixels.
 #[derive(Clone, Copy, PartialEq, Eq)]

@@ -7,12 +7,14 @@
 #![tactic(auto)]
 
 mod ends;
+mod samples;
 mod shape;
 mod spacing;
 mod tiles;
 mod window;
 
 pub use ends::End;
+pub use samples::SampleBytes;
 pub use shape::Shape;
 pub use spacing::{Cuts, Spacing};
 pub use tiles::{tile_at, tiles_along};

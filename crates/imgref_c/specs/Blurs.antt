@@ -3,7 +3,7 @@ use Rattle.std.specs.Prelude.{◌≡◌, ℕ, ◌*◌, ◌^◌, ◌<◌, ◌&&�
 use Rattle.image_model.specs.Grid.{Grid}
 use Rattle.image_model.specs.Windows.{Window, exact_len, is_inside}
 use Rattle.image_means.specs.Blur.{blurred}
-use Rattle.image_means.specs.declared.means.SampleBytes.TheVariants.{One}
+use Rattle.image_shape.specs.declared.samples.SampleBytes.TheVariants.{One}
 use Rattle.imgref_c.specs.declared.pixels.ClaimedPixels.{ClaimedPixels}
 use Rattle.imgref_c.specs.declared.status.Status.{Status}
 use Rattle.imgref_c.specs.declared.status.Status.TheVariants.{Done, NotAnImage, WindowOutside, TooLarge, NoRoom}

@@ -2,13 +2,12 @@
 #![tactic(auto)]
 
 mod alike;
-mod descriptors;
 mod failing;
-mod files;
 
 pub use devices::Counted;
-use devices::Retried;
-use files::{NewFile, Sink, Source, id_of, read_whole, standard_id};
+use devices::{
+    FileId, NewFile, Retried, Sink, Source, fill_descriptors, id_of, read_whole, standard_id,
+};
 use frame_edits::{BoxStyle, Edits};
 pub use frame_edits::{Edit, Framing, Paint};
 pub use frame_heads::{Format, Picture, Rate};
@@ -16,14 +15,14 @@ pub use frame_lists::Range;
 pub use frame_messages::is_wanted;
 use frame_messages::{
     Ending, Noted, Texts, ending_of, order_status, say_boxes, say_no_head, say_no_words,
-    say_odd_boxes, say_reason, say_shared, tell_found, write_report,
+    say_odd_boxes, say_outside, say_reason, say_shared, tell_found, write_report,
 };
 pub use frame_requests::{RunFault, Seen, Shape, Stretch};
 use frame_requests::{
-    FileId, Files, Options, Refusal, edits_asked, has_blur, read_options, reads_input_twice,
-    shared_file, words_of,
+    Files, Options, Refusal, edits_asked, has_blur, read_options, reads_input_twice, shared_file,
+    words_of,
 };
-use frame_runs::run;
+use frame_runs::{run, unsuited_in_frame};
 pub use image_planes::{Axes, Change, Scratch, Window};
 use std::fs::File;
 use std::io;
@@ -157,14 +156,15 @@ impl Call<'_> {
     // Prints the fault and why it came.
     fn say_fault(&self, fault: RunFault, seen: &Seen) {
         let _ = eprintln!(self.rt; "{fault}");
-        say_reason(
-            self.rt,
-            fault,
-            seen,
-            self.options.limit,
-            self.edits,
-            self.texts,
-        );
+        if !matches!(fault, RunFault::Outside) {
+            say_reason(self.rt, fault, seen, self.options.limit);
+            return;
+        }
+        let unsuited = match seen.shape() {
+            Some(shape) => unsuited_in_frame(shape, self.edits),
+            None => None,
+        };
+        say_outside(self.rt, seen, unsuited, self.edits, self.texts);
     }
 
     // Prints the fault of the report and its cause.
@@ -398,7 +398,7 @@ impl Call<'_> {
 /// a fault, the program prints the fault and its reason to standard error, and exits with its
 /// status.
 fn main(rt: HostRuntime) -> ExitCode {
-    let Ok(_filled) = descriptors::fill(&rt) else {
+    let Ok(_filled) = fill_descriptors(&rt) else {
         return end(&rt, RunFault::Output);
     };
     let words = match words_of(&rt) {

@@ -3,7 +3,7 @@ use Rattle.std.proofs.Common.{◌≡◌, ℕ, ◌+◌, ◌*◌, ◌/◌, ◌≤�
 use Rattle.std.proofs.lemmas.Nat.{div-add-mod'}
 use Rattle.std.proofs.lemmas.Grind.{common_steps}
 use Rattle.image_means.specs.Means.{row_cell}
-use Rattle.image_means.specs.declared.means.SampleBytes.TheVariants.{One}
+use Rattle.image_shape.specs.declared.samples.SampleBytes.TheVariants.{One}
 use Rattle.image_means.proofs.SumsOfTiles.{put_next, stretch_cell}
 use Rattle.image_means.proofs.tile_sums.put_row.Goals as goal
 

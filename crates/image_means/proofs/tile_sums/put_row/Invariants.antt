@@ -1,7 +1,7 @@
 -- The stretches so far have their means.
 use Rattle.std.proofs.Common.{◌≡◌, ◌-◌, length}
 use Rattle.image_means.specs.Means.{row_cell}
-use Rattle.image_means.specs.declared.means.SampleBytes.TheVariants.{One}
+use Rattle.image_shape.specs.declared.samples.SampleBytes.TheVariants.{One}
 use Rattle.image_means.proofs.SumsOfTiles.{PutBefore}
 use Rattle.image_means.proofs.tile_sums.put_row.Given as goal
 

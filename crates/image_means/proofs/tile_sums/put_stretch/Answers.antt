@@ -3,7 +3,7 @@ use Rattle.std.proofs.Common.{◌≡◌, ℕ, List, length, subst, ap, ◌∙◌
 use Rattle.std.proofs.lemmas.List.{length-replicate}
 use Rattle.image_means.specs.LineSums.{sums_cell}
 use Rattle.image_means.specs.Means.{row_cell, PutsCells}
-use Rattle.image_means.specs.declared.means.SampleBytes.TheVariants.{One}
+use Rattle.image_shape.specs.declared.samples.SampleBytes.TheVariants.{One}
 use Rattle.image_means.proofs.SumsOfTiles.{puts_same, sums_are}
 use Rattle.image_means.proofs.tile_sums.put_stretch.Goals as goal
 

@@ -2,7 +2,7 @@
 use Rattle.std.specs.Prelude.{Option}
 use Rattle.frame_edits.specs.Edits.{Edits}
 use Rattle.frame_formats.specs.Suits.{TellsBad, size_suits_picture, size_suits_video, suits_picture, suits_video}
-use Rattle.frame_formats.specs.declared.suits.Unsuited.{Unsuited}
+use Rattle.frame_edits.specs.declared.unsuited.Unsuited.{Unsuited}
 use Rattle.frame_requests.specs.declared.seen.Shape.{Shape}
 use Rattle.frame_requests.specs.declared.seen.Shape.TheVariants.{Video, Picture}
 

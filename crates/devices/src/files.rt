@@ -2,8 +2,8 @@
 
 ghost use Rattle.std.specs.Io.{WritesAtMost};
 
-use devices::Retried;
-use frame_requests::{FileId, are_one};
+use crate::file_ids::{FileId, are_one};
+use crate::retried::Retried;
 use std::fs::File;
 use std::io::{Error, ErrorKind, Read, Stdin, Stdout, Write};
 use std::os::fd::AsRawFd;
@@ -50,7 +50,7 @@ fn same_error(error: &Error) -> Error {
 
 /// Where the bytes come from, the first of them, and why no more come.
 #[derive(Drop)]
-pub(crate) struct Source {
+pub struct Source {
     input: Retried<Input>,
     front: [u8; FRONT],
     len: usize,
@@ -59,7 +59,7 @@ pub(crate) struct Source {
 
 impl Source {
     /// The file of this name, or standard input where there is no name.
-    pub(crate) fn open(rt: &HostRuntime, name: Option<&str>) -> io::Result<Source> {
+    pub fn open(rt: &HostRuntime, name: Option<&str>) -> io::Result<Source> {
         let input = match name {
             None => Input::Standard(rt.stdin()),
             Some(name) => Input::Named(File::open(rt, name)?),
@@ -84,12 +84,12 @@ impl Source {
     }
 
     /// Why reading failed, where it did.
-    pub(crate) fn failure(&self) -> Option<&Error> {
+    pub fn failure(&self) -> Option<&Error> {
         self.failure.as_ref()
     }
 
     /// The first bytes that were read.
-    pub(crate) fn front(&self) -> &[u8] {
+    pub fn front(&self) -> &[u8] {
         &self.front[..self.len.min(FRONT)]
     }
 }
@@ -129,14 +129,14 @@ impl Output {
 
 /// Where the bytes go, and why no more are taken.
 #[derive(Drop)]
-pub(crate) struct Sink {
+pub struct Sink {
     output: Output,
     failure: Option<Error>,
 }
 
 impl Sink {
     /// Standard output.
-    pub(crate) fn standard(rt: &HostRuntime) -> Sink {
+    pub fn standard(rt: &HostRuntime) -> Sink {
         Sink {
             output: Output::Standard(rt.stdout()),
             failure: None,
@@ -144,7 +144,7 @@ impl Sink {
     }
 
     /// A file.
-    pub(crate) fn named(file: File) -> Sink {
+    pub fn named(file: File) -> Sink {
         Sink {
             output: Output::Named(file),
             failure: None,
@@ -152,12 +152,12 @@ impl Sink {
     }
 
     /// Why writing failed, where it did.
-    pub(crate) fn failure(&self) -> Option<&Error> {
+    pub fn failure(&self) -> Option<&Error> {
         self.failure.as_ref()
     }
 
     /// Waits until a file is on its disk.
-    pub(crate) fn sync(&self) -> io::Result<()> {
+    pub fn sync(&self) -> io::Result<()> {
         match &self.output {
             Output::Standard(_) => Ok(()),
             Output::Named(file) => file.sync_all(),
@@ -279,7 +279,7 @@ fn missing_id<'a>(rt: &HostRuntime, name: &'a str) -> FileId<'a> {
 
 /// The file of this name, also by another name or a link to it. `None` for a pipe, a folder and a
 /// device.
-pub(crate) fn id_of<'a>(rt: &HostRuntime, name: &'a str) -> Option<FileId<'a>> {
+pub fn id_of<'a>(rt: &HostRuntime, name: &'a str) -> Option<FileId<'a>> {
     match fs::metadata(rt, name) {
         Ok(found) => {
             if !found.is_file() {
@@ -296,7 +296,7 @@ pub(crate) fn id_of<'a>(rt: &HostRuntime, name: &'a str) -> Option<FileId<'a>> {
 }
 
 /// The file that standard input or standard output is.
-pub(crate) fn standard_id(rt: &HostRuntime, writes: bool) -> Option<FileId<'static>> {
+pub fn standard_id(rt: &HostRuntime, writes: bool) -> Option<FileId<'static>> {
     if writes {
         id_of(rt, STDOUT)
     } else {
@@ -357,21 +357,21 @@ fn create_beside(rt: &HostRuntime, name: &str) -> io::Result<(File, String)> {
 
 /// A new file, which has another name beside its own until it is whole.
 #[derive(Drop)]
-pub(crate) struct NewFile {
+pub struct NewFile {
     beside: String,
     target: String,
 }
 
 impl NewFile {
     /// A new file that is to have this name.
-    pub(crate) fn create(rt: &HostRuntime, name: &str) -> io::Result<(File, NewFile)> {
+    pub fn create(rt: &HostRuntime, name: &str) -> io::Result<(File, NewFile)> {
         let target = target_of(rt, name)?;
         let (file, beside) = create_beside(rt, target.as_str())?;
         Ok((file, NewFile { beside, target }))
     }
 
     /// Another file of this name would be written over this one.
-    pub(crate) fn check_apart(&self, rt: &HostRuntime, name: &str) -> io::Result<()> {
+    pub fn check_apart(&self, rt: &HostRuntime, name: &str) -> io::Result<()> {
         if are_one(id_of(rt, name), id_of(rt, self.beside.as_str())) {
             Err(Error::new(
                 ErrorKind::AlreadyExists,
@@ -383,23 +383,23 @@ impl NewFile {
     }
 
     /// Gives it its name.
-    pub(crate) fn give_name(&self, rt: &HostRuntime) -> io::Result<()> {
+    pub fn give_name(&self, rt: &HostRuntime) -> io::Result<()> {
         fs::rename(rt, self.beside.as_str(), self.target.as_str())
     }
 
     /// Removes it before it has its name.
-    pub(crate) fn remove(&self, rt: &HostRuntime) {
+    pub fn remove(&self, rt: &HostRuntime) {
         let _ = fs::remove_file(rt, self.beside.as_str());
     }
 
     /// Removes it once it has its name.
-    pub(crate) fn take_name(&self, rt: &HostRuntime) {
+    pub fn take_name(&self, rt: &HostRuntime) {
         let _ = fs::remove_file(rt, self.target.as_str());
     }
 }
 
 /// All bytes of the file of this name, or of standard input where the name is `-`.
-pub(crate) fn read_whole(rt: &HostRuntime, name: &str) -> io::Result<Vec<u8>> {
+pub fn read_whole(rt: &HostRuntime, name: &str) -> io::Result<Vec<u8>> {
     if name != "-" {
         return fs::read(rt, name);
     }

@@ -12,7 +12,7 @@ const ROOT: &str = "/";
 /// What was opened in the place of the standard streams that were closed. While it is there, no other
 /// file gets their numbers.
 #[derive(Drop)]
-pub(crate) struct Filled {
+pub struct Filled {
     _files: [Option<File>; 3],
 }
 
@@ -49,7 +49,7 @@ fn fill_next(rt: &HostRuntime) -> io::Result<Option<File>> {
 /// # Errors
 ///
 /// Where neither that device nor a folder can be opened.
-pub(crate) fn fill(rt: &HostRuntime) -> io::Result<Filled> {
+pub fn fill_descriptors(rt: &HostRuntime) -> io::Result<Filled> {
     let mut files = [None, None, None];
     for at in 0..3 {
         match fill_next(rt)? {
