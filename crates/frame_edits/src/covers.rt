@@ -187,10 +187,7 @@ fn covers_nothing(unit: Unit, width: usize, height: usize, change: Change<Paint>
         Change::Fill {
             window,
             value: Paint::Around { margin, .. },
-        } => {
-            let window = window_from(0, unit, margin, width, height, window);
-            has_no_pixel(window)
-        }
+        } => has_no_pixel(window_from(0, unit, margin, width, height, window)),
         _ => false,
     }
 }
@@ -287,8 +284,7 @@ fn changes_nothing(unit: Unit, width: usize, height: usize, edit: Edit) -> bool
     match edit.scope {
         Scope::Exact => covers_nothing(unit, width, height, edit.change),
         Scope::Boxed { margin } => {
-            let window = box_window(unit, margin, width, height, edit.change);
-            has_no_pixel(window)
+            has_no_pixel(box_window(unit, margin, width, height, edit.change))
         }
     }
 }

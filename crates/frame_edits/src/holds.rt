@@ -8,7 +8,7 @@ ghost use Rattle.frame_lists.specs.Tracks.{missing, goes_on_at, comes_at, around
 ghost use Rattle.frame_edits.specs.Holds.{kept, kept_on, filled, between, held_at, held, AreHeld};
 
 use crate::box_covers::{BoxStyle, cover_of, put_in_order};
-use crate::words::{Edit, Scope};
+use crate::words::Edit;
 use frame_lists::{
     Range, Tracked, WordsFault, around, comes_at, goes_on_at, missing, put_by_tracks, read_tracked,
 };
@@ -26,10 +26,7 @@ fn kept(style: BoxStyle, before: usize, after: usize, tracked: Tracked) -> Edit
             first: frame.saturating_sub(1).saturating_sub(before as u64),
             end: frame.saturating_add(after as u64),
         },
-        change: cover_of(style, tracked).change,
-        scope: Scope::Boxed {
-            margin: style.margin,
-        },
+        ..cover_of(style, tracked)
     }
 }
 
@@ -44,10 +41,7 @@ fn between(style: BoxStyle, first: &Tracked, next: &Tracked) -> Edit
             first: first.frame as u64,
             end: (next.frame as u64).saturating_sub(1),
         },
-        change: cover_of(style, around(first, next)).change,
-        scope: Scope::Boxed {
-            margin: style.margin,
-        },
+        ..cover_of(style, around(first, next))
     }
 }
 

@@ -37,12 +37,11 @@ use Rattle.frame_lists.specs.Ranges.{end_at, frame_at, frames_in}
 use Rattle.frame_lists.specs.declared.ranges.Range.{Range}
 use Rattle.frame_lists.specs.declared.ranges.Range.TheVariants.{Frames, Times}
 use Rattle.frame_formats.specs.Framings.{resize_for}
-use Rattle.frame_formats.specs.Layers.{change_on, job_on, jobs_on, layer_height, layer_width, opaque_change, picture_layers, picture_pixel, resizings_on, video_layers}
+use Rattle.frame_formats.specs.Layers.{across_of, change_on, down_of, job_on, jobs_on, layer_height, layer_width, picture_layers, picture_pixel, resizings_on, value_on, video_layers, window_on}
 use Rattle.frame_formats.specs.Recipe.{PicturesHideFilled, Recipe, VideosHideFilled, finished_picture, finished_video, recipe, resized_picture}
-use Rattle.frame_formats.specs.Sampling.{at_corner, change_under, exact_samples, samples, window_under}
-use Rattle.frame_formats.specs.Steps.{all_some, bytes_of, change_in, no_colour, step_by, step_in, value_in}
+use Rattle.frame_formats.specs.Sampling.{at_corner, exact_samples, samples}
+use Rattle.frame_formats.specs.Steps.{all_some, bytes_of, step_by, step_in, value_in}
 use Rattle.frame_formats.specs.declared.layers.Layer.{Layer}
-use Rattle.frame_formats.specs.declared.layers.Layer.TheVariants.{Pixels, Samples, Alpha}
 
 -- ---- what something was made of
 
@@ -114,66 +113,37 @@ settled_kind (Boxed margin) s width height (Blur w across down bytes) = (refl, r
 settled_kind (Boxed margin) s width height (Move w left top) = (refl, refl)
 settled_kind (Boxed margin) s width height (Flip axes) = (refl, refl)
 
-in_kind : (pixel : Pixel) (c : Change Paint) (d : Change (List ℕ)) → change_in pixel c ≡ Some d → SameKind c d
-unfolding change_in
-in_kind pixel (Fill w paint) d made = let v = mapped (λ value. Fill w value) (value_in pixel paint) d made in same_kind (Fill w paint) (Fill w v.0) d v.2 (refl, refl)
-in_kind pixel (Mosaic w wide high) d made = let c : Change Paint = Mosaic w wide high in let e : Change (List ℕ) = Mosaic w wide high in same_kind c e d (some_is e d made) (refl, refl)
-in_kind pixel (Mean w wide high bytes) d made = let c : Change Paint = Mean w wide high bytes in let e : Change (List ℕ) = Mean w wide high (bytes_of pixel) in same_kind c e d (some_is e d made) (refl, refl)
-in_kind pixel (Blur w across down bytes) d made = let c : Change Paint = Blur w across down bytes in let e : Change (List ℕ) = Blur w across down (bytes_of pixel) in same_kind c e d (some_is e d made) (refl, refl)
-in_kind pixel (Move w left top) d made = let c : Change Paint = Move w left top in let e : Change (List ℕ) = Move w left top in same_kind c e d (some_is e d made) (refl, refl)
-in_kind pixel (Flip axes) d made = let c : Change Paint = Flip axes in let e : Change (List ℕ) = Flip axes in same_kind c e d (some_is e d made) (refl, refl)
-
-opaque_kind : (pixel : Pixel) (c : Change (List ℕ)) → SameKind c (opaque_change pixel c)
-opaque_kind pixel (Fill w value) = (refl, refl)
-opaque_kind pixel (Mosaic w wide high) = (refl, refl)
-opaque_kind pixel (Mean w wide high bytes) = (refl, refl)
-opaque_kind pixel (Blur w across down bytes) = (refl, refl)
-opaque_kind pixel (Move w left top) = (refl, refl)
-opaque_kind pixel (Flip axes) = (refl, refl)
-
 -- the same where it is made of something more
-abbrev MadesKind : Change (List ℕ) → Option (Change (List ℕ)) → Type 0
+abbrev MadesKind : Change Paint → Option (Change (List ℕ)) → Type 0
 MadesKind c o = (d : Change (List ℕ)) → o ≡ Some d → SameKind c d
 
-of_more : {A : Type 0} (c : Change (List ℕ)) (o : Option A) (k : A → Option (Change (List ℕ))) → ((v : A) → MadesKind c (k v)) → MadesKind c (o >>= k)
+of_more : {A : Type 0} (c : Change Paint) (o : Option A) (k : A → Option (Change (List ℕ))) → ((v : A) → MadesKind c (k v)) → MadesKind c (o >>= k)
 of_more c None k each d made = absurd cc
 of_more c (Some v) k each d made = each v d made
 
-at_last : (c e : Change (List ℕ)) → SameKind c e → MadesKind c (Some e)
+at_last : (c : Change Paint) (e : Change (List ℕ)) → SameKind c e → MadesKind c (Some e)
 at_last c e same d made = same_kind c e d (some_is e d made) same
 
-under_kind : (pixel : Pixel) (x y width height : ℕ) (c d : Change (List ℕ)) → change_under pixel x y width height c ≡ Some d → SameKind c d
-unfolding change_under
-under_kind pixel x y width height (Fill w value) d made =
-    of_more (Fill w value) (window_under x y width height w) (λ under. Some (Fill under (no_colour pixel))) (λ under. at_last (Fill w value) (Fill under (no_colour pixel)) (refl, refl)) d made
-under_kind pixel x y width height (Mosaic w wide high) d made =
-    of_more (Mosaic w wide high) (window_under x y width height w) (λ under. exact_samples x wide >>= λ a. exact_samples y high >>= λ b. Some (Mosaic under a b))
-    (λ under. of_more (Mosaic w wide high) (exact_samples x wide) (λ a. exact_samples y high >>= λ b. Some (Mosaic under a b))
-    (λ a. of_more (Mosaic w wide high) (exact_samples y high) (λ b. Some (Mosaic under a b)) (λ b. at_last (Mosaic w wide high) (Mosaic under a b) (refl, refl)))) d made
-under_kind pixel x y width height (Mean w wide high bytes) d made =
-    of_more (Mean w wide high bytes) (window_under x y width height w) (λ under. exact_samples x wide >>= λ a. exact_samples y high >>= λ b. Some (Mean under a b bytes))
-    (λ under. of_more (Mean w wide high bytes) (exact_samples x wide) (λ a. exact_samples y high >>= λ b. Some (Mean under a b bytes))
-    (λ a. of_more (Mean w wide high bytes) (exact_samples y high) (λ b. Some (Mean under a b bytes)) (λ b. at_last (Mean w wide high bytes) (Mean under a b bytes) (refl, refl)))) d made
-under_kind pixel x y width height (Blur w across down bytes) d made =
-    of_more (Blur w across down bytes) (window_under x y width height w) (λ under. Some (Blur under (samples across x) (samples down y) bytes))
-    (λ under. at_last (Blur w across down bytes) (Blur under (samples across x) (samples down y) bytes) (refl, refl)) d made
-under_kind pixel x y width height (Move w left top) d made =
-    of_more (Move w left top) (window_under x y width height w) (λ under. window_under x y width height (at_corner w left top) >>= λ goal. Some (Move under goal.left goal.top))
-    (λ under. of_more (Move w left top) (window_under x y width height (at_corner w left top)) (λ goal. Some (Move under goal.left goal.top)) (λ goal. at_last (Move w left top) (Move under goal.left goal.top) (refl, refl))) d made
-under_kind pixel x y width height (Flip axes) d made = at_last (Flip axes) (Flip axes) (refl, refl) d made
-
 on_kind : (pixel : Pixel) (layer : Layer) (width height : ℕ) (c : Change Paint) (d : Change (List ℕ)) → change_on pixel layer width height c ≡ Some d → SameKind c d
-on_kind pixel Pixels width height c d made = in_kind pixel c d made
-on_kind pixel Alpha width height c d made =
-    let v = mapped (opaque_change pixel) (change_in pixel c) d made in
-    let first = in_kind pixel c v.0 v.1 in
-    let second = opaque_kind pixel v.0 in
-    same_kind c (opaque_change pixel v.0) d v.2 (second.0 ∙ first.0, second.1 ∙ first.1)
-on_kind pixel (Samples x y) width height c d made =
-    let v = bound (change_in pixel c) (change_under pixel x y width height) d made in
-    let first = in_kind pixel c v.0 v.1 in
-    let second = under_kind pixel x y width height v.0 d v.2 in
-    (second.0 ∙ first.0, second.1 ∙ first.1)
+unfolding change_on
+on_kind pixel layer width height (Fill w paint) d made =
+    of_more (Fill w paint) (value_in pixel paint) (λ value. window_on layer width height w >>= λ under. Some (Fill under (value_on pixel layer value)))
+    (λ value. of_more (Fill w paint) (window_on layer width height w) (λ under. Some (Fill under (value_on pixel layer value))) (λ under. at_last (Fill w paint) (Fill under (value_on pixel layer value)) (refl, refl))) d made
+on_kind pixel layer width height (Mosaic w wide high) d made =
+    of_more (Mosaic w wide high) (window_on layer width height w) (λ under. exact_samples (across_of layer) wide >>= λ a. exact_samples (down_of layer) high >>= λ b. Some (Mosaic under a b))
+    (λ under. of_more (Mosaic w wide high) (exact_samples (across_of layer) wide) (λ a. exact_samples (down_of layer) high >>= λ b. Some (Mosaic under a b))
+    (λ a. of_more (Mosaic w wide high) (exact_samples (down_of layer) high) (λ b. Some (Mosaic under a b)) (λ b. at_last (Mosaic w wide high) (Mosaic under a b) (refl, refl)))) d made
+on_kind pixel layer width height (Mean w wide high bytes) d made =
+    of_more (Mean w wide high bytes) (window_on layer width height w) (λ under. exact_samples (across_of layer) wide >>= λ a. exact_samples (down_of layer) high >>= λ b. Some (Mean under a b (bytes_of pixel)))
+    (λ under. of_more (Mean w wide high bytes) (exact_samples (across_of layer) wide) (λ a. exact_samples (down_of layer) high >>= λ b. Some (Mean under a b (bytes_of pixel)))
+    (λ a. of_more (Mean w wide high bytes) (exact_samples (down_of layer) high) (λ b. Some (Mean under a b (bytes_of pixel))) (λ b. at_last (Mean w wide high bytes) (Mean under a b (bytes_of pixel)) (refl, refl)))) d made
+on_kind pixel layer width height (Blur w across down bytes) d made =
+    of_more (Blur w across down bytes) (window_on layer width height w) (λ under. Some (Blur under (samples across (across_of layer)) (samples down (down_of layer)) (bytes_of pixel)))
+    (λ under. at_last (Blur w across down bytes) (Blur under (samples across (across_of layer)) (samples down (down_of layer)) (bytes_of pixel)) (refl, refl)) d made
+on_kind pixel layer width height (Move w left top) d made =
+    of_more (Move w left top) (window_on layer width height w) (λ under. window_on layer width height (at_corner w left top) >>= λ goal. Some (Move under goal.left goal.top))
+    (λ under. of_more (Move w left top) (window_on layer width height (at_corner w left top)) (λ goal. Some (Move under goal.left goal.top)) (λ goal. at_last (Move w left top) (Move under goal.left goal.top) (refl, refl))) d made
+on_kind pixel layer width height (Flip axes) d made = at_last (Flip axes) (Flip axes) (refl, refl) d made
 
 -- ---- steps of the same frames
 

@@ -2,16 +2,16 @@
 use Rattle.std.specs.Prelude.{ℕ, ◌<◌, true, false, List, [], ◌∷◌, ◌++◌, Option, Some}
 use Rattle.image_planes.specs.Changes.{Job, job_for}
 use Rattle.image_planes.specs.Resized.{Resizing, resizing_for}
-use Rattle.std.specs.Option.{option_map}
+use Rattle.image_shape.specs.declared.window.Window.{Window}
 use Rattle.image_commands.specs.declared.changes.Change.{Change}
 use Rattle.image_commands.specs.declared.changes.Change.TheVariants.{Fill, Mosaic, Mean, Blur, Move, Flip}
 use Rattle.image_planes.specs.declared.change.Step.{Step}
 use Rattle.image_planes.specs.declared.target.Resize.{Resize}
 use Rattle.image_planes.specs.declared.target.Resize.TheVariants.{Crop, Pad, Turn}
 use Rattle.text_model.specs.Reading.{◌>>=◌}
-use Rattle.frame_formats.specs.Sampling.{samples, change_under}
+use Rattle.frame_formats.specs.Sampling.{at_corner, exact_samples, samples, window_under}
 use Rattle.frame_formats.specs.Framings.{resize_under}
-use Rattle.frame_formats.specs.Steps.{StartsWell, all_some, step_by, change_in, opaque}
+use Rattle.frame_formats.specs.Steps.{StartsWell, all_some, bytes_of, no_colour, opaque, step_by, value_in}
 use Rattle.frame_heads.specs.Pixels.{pixel_size}
 use Rattle.frame_heads.specs.Format.{sampling}
 use Rattle.frame_heads.specs.declared.header.Chroma.{Chroma}
@@ -69,25 +69,56 @@ layer_height (Samples x y) height = samples height y
 
 -- ---- what is done to the planes of a frame of this size
 
--- a fill leaves opaque pixels, and so does a border
-abbrev pub opaque_change : Pixel → Change (List ℕ) → Change (List ℕ)
-opaque_change pixel (Fill w value) = Fill w (opaque pixel)
-opaque_change pixel (Mosaic w tile_width tile_height) = Mosaic w tile_width tile_height
-opaque_change pixel (Mean w tile_width tile_height bytes) = Mean w tile_width tile_height bytes
-opaque_change pixel (Blur w across down bytes) = Blur w across down bytes
-opaque_change pixel (Move w left top) = Move w left top
-opaque_change pixel (Flip axes) = Flip axes
-
+-- a border leaves opaque pixels
 abbrev pub opaque_resize : Pixel → Resize → Resize
 opaque_resize pixel (Crop w) = Crop w
 opaque_resize pixel (Pad left top width height value) = Pad left top width height (opaque pixel)
 opaque_resize pixel (Turn quarter width height) = Turn quarter width height
 
--- what a change of pixels is to the plane
-abbrev pub change_on : Pixel → Layer → ℕ → ℕ → Change Paint → Option (Change (List ℕ))
-change_on pixel Pixels width height change = change_in pixel change
-change_on pixel Alpha width height change = option_map (opaque_change pixel) (change_in pixel change)
-change_on pixel (Samples x y) width height change = change_in pixel change >>= change_under pixel x y width height
+-- the value of a filled pixel of the plane: it is opaque, and has no colour in chroma samples
+abbrev pub value_on : Pixel → Layer → List ℕ → List ℕ
+value_on pixel Pixels value = value
+value_on pixel Alpha value = opaque pixel
+value_on pixel (Samples x y) value = no_colour pixel
+
+-- how many columns and rows of pixels share a pixel of the plane
+abbrev pub across_of : Layer → ℕ
+across_of Pixels = 1
+across_of Alpha = 1
+across_of (Samples x y) = x
+
+abbrev pub down_of : Layer → ℕ
+down_of Pixels = 1
+down_of Alpha = 1
+down_of (Samples x y) = y
+
+abbrev pub window_on : Layer → ℕ → ℕ → Window → Option Window
+window_on layer width height w = window_under (across_of layer) (down_of layer) width height w
+
+-- what a change of pixels is to the plane: means are those of its samples, and so are blurs
+unfoldable pub change_on : Pixel → Layer → ℕ → ℕ → Change Paint → Option (Change (List ℕ))
+change_on pixel layer width height (Fill w paint) = do
+  value ← value_in pixel paint
+  under ← window_on layer width height w
+  Some (Fill under (value_on pixel layer value))
+change_on pixel layer width height (Mosaic w tile_width tile_height) = do
+  under ← window_on layer width height w
+  wide ← exact_samples (across_of layer) tile_width
+  high ← exact_samples (down_of layer) tile_height
+  Some (Mosaic under wide high)
+change_on pixel layer width height (Mean w tile_width tile_height bytes) = do
+  under ← window_on layer width height w
+  wide ← exact_samples (across_of layer) tile_width
+  high ← exact_samples (down_of layer) tile_height
+  Some (Mean under wide high (bytes_of pixel))
+change_on pixel layer width height (Blur w across down bytes) = do
+  under ← window_on layer width height w
+  Some (Blur under (samples across (across_of layer)) (samples down (down_of layer)) (bytes_of pixel))
+change_on pixel layer width height (Move w left top) = do
+  under ← window_on layer width height w
+  goal ← window_on layer width height (at_corner w left top)
+  Some (Move under goal.left goal.top)
+change_on pixel layer width height (Flip axes) = Some (Flip axes)
 
 -- the plane under steps in pixels, or nothing where one has a colour, reaches outside the plane or doesn't fall on whole samples
 abbrev pub job_on : Pixel → Layer → ℕ → ℕ → List (Step Paint) → Option Job

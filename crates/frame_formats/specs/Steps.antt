@@ -6,7 +6,6 @@ use Rattle.text_model.specs.Reading.{◌>>=◌}
 use Rattle.image_shape.specs.declared.samples.SampleBytes.{SampleBytes}
 use Rattle.image_shape.specs.declared.samples.SampleBytes.TheVariants.{One, LowFirst, HighFirst}
 use Rattle.image_commands.specs.declared.changes.Change.{Change}
-use Rattle.image_commands.specs.declared.changes.Change.TheVariants.{Fill, Mosaic, Mean, Blur, Move, Flip}
 use Rattle.image_planes.specs.declared.change.Step.{Step}
 use Rattle.frame_heads.specs.declared.pixel.Pixel.{Pixel}
 use Rattle.frame_edits.specs.declared.paint.Paint.{Paint}
@@ -86,15 +85,6 @@ value_in p Black = grey_of p (black p)
 value_in p (Colour red green blue) = colour_of p red green blue
 value_in p (Around (Some value) margin) = grey_of p value
 value_in p (Around None margin) = grey_of p (black p)
-
--- what a change is to a plane of such pixels: means are those of its samples, and so are blurs
-unfoldable pub change_in : Pixel → Change Paint → Option (Change (List ℕ))
-change_in pixel (Fill w paint) = option_map (λ value. Fill w value) (value_in pixel paint)
-change_in pixel (Mosaic w tile_width tile_height) = Some (Mosaic w tile_width tile_height)
-change_in pixel (Mean w tile_width tile_height bytes) = Some (Mean w tile_width tile_height (bytes_of pixel))
-change_in pixel (Blur w across down bytes) = Some (Blur w across down (bytes_of pixel))
-change_in pixel (Move w left top) = Some (Move w left top)
-change_in pixel (Flip axes) = Some (Flip axes)
 
 -- an edit as a step of a frame of this size, where it has frames
 abbrev pub step_in : Samples → Option Rate → ℕ → ℕ → Edit → Option (Step Paint)

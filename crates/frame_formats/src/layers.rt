@@ -1,20 +1,20 @@
 //! The planes of a frame or a picture: what the pixels of each are, its changes, and the change of
 //! its size.
 
-ghost use Rattle.std.specs.Prelude.{◌≡◌, ◌≢◌, All, map, Some, None, IfOk, IfErr};
+ghost use Rattle.std.specs.Prelude.{◌≡◌, ◌≢◌, ◌<◌, All, map, Some, None, IfOk, IfErr};
 ghost use Rattle.std.specs.Option.{option_map};
 ghost use Rattle.image_planes.specs.Planes.{job_of};
 ghost use Rattle.image_planes.specs.Targets.{resizing_of};
-ghost use Rattle.frame_formats.specs.Layers.{StandsForPixels, picture_pixel, picture_layers, video_layers, layer_width, layer_height, opaque_change, opaque_resize, change_on, job_on, jobs_on, StartsOn, resizing_on, resizings_on};
+ghost use Rattle.frame_formats.specs.Layers.{StandsForPixels, picture_pixel, picture_layers, video_layers, layer_width, layer_height, across_of, down_of, opaque_resize, value_on, change_on, job_on, jobs_on, StartsOn, resizing_on, resizings_on};
 ghost use Rattle.frame_formats.specs.Plan.{Tells};
 ghost use Rattle.frame_formats.specs.Steps.{StartsWell, first_made, step_by};
 
 use crate::plans::PlanFault;
-use crate::samples::{change_of_samples, count_samples, resize_of_samples};
-use crate::steps::{change_in, opaque};
+use crate::samples::{count_samples, resize_of_samples, whole_samples, window_of_samples};
+use crate::steps::{bytes_of, no_colour, opaque, value_in};
 use frame_edits::Paint;
 use frame_heads::{Chroma, Kind, Picture, Pixel, Tuples};
-use image_planes::{Change, Plane, Resize, Step, Target, Value};
+use image_planes::{Change, Plane, Resize, Step, Target, Value, Window};
 use std::alloc::Global;
 
 /// A plane of a frame or a picture.
@@ -77,20 +77,7 @@ pub(crate) fn video_layers(chroma: Chroma) -> &'static [Layer]
     }
 }
 
-// What a change is to a plane of how opaque pixels are.
-fn opaque_change(pixel: Pixel, change: Change<Value>) -> Change<Value>
-    ensures { result ≡ opaque_change pixel change }
-{
-    match change {
-        Change::Fill { window, value: _ } => Change::Fill {
-            window,
-            value: opaque(pixel),
-        },
-        _ => change,
-    }
-}
-
-// What becomes of the size of such a plane.
+// What becomes of the size of a plane of how opaque pixels are.
 fn opaque_resize(pixel: Pixel, resize: Resize) -> Resize
     ensures { result ≡ opaque_resize pixel resize }
 {
@@ -112,7 +99,34 @@ fn opaque_resize(pixel: Pixel, resize: Resize) -> Resize
     }
 }
 
-/// What a change of the pixels of a frame of this size is to the plane.
+// The value of a filled pixel of the plane, where those of the frame get this one.
+fn value_on(pixel: Pixel, layer: Layer, value: Value) -> Value
+    ensures { result ≡ value_on pixel layer value }
+{
+    match layer {
+        Layer::Pixels => value,
+        Layer::Alpha => opaque(pixel),
+        Layer::Samples(_, _) => no_colour(pixel),
+    }
+}
+
+// How many columns and rows of pixels share a pixel of the plane.
+fn shared_by(layer: Layer) -> (usize, usize)
+    requires { StandsForPixels layer }
+    ensures across { result.0 ≡ across_of layer }
+    ensures down { result.1 ≡ down_of layer }
+    ensures columns { 0 < result.0 }
+    ensures rows { 0 < result.1 }
+{
+    match layer {
+        Layer::Pixels | Layer::Alpha => (1, 1),
+        Layer::Samples(x, y) => (x, y),
+    }
+}
+
+/// What a change of the pixels of a frame of this size is to the plane. `None` for a value that these
+/// pixels lack, and where edges aren't those of samples. Means are those of samples, and so are blurs.
+#[tactic(auto, unfolding(crate::specs::Layers::change_on))]
 pub(crate) fn change_on(
     pixel: Pixel,
     layer: Layer,
@@ -123,11 +137,58 @@ pub(crate) fn change_on(
     requires { StandsForPixels layer }
     ensures { result ≡ change_on pixel layer width height change }
 {
-    let plain = change_in(pixel, change)?;
-    match layer {
-        Layer::Pixels => Some(plain),
-        Layer::Alpha => Some(opaque_change(pixel, plain)),
-        Layer::Samples(x, y) => change_of_samples(pixel, x, y, width, height, plain),
+    let (x, y) = shared_by(layer);
+    let bytes = bytes_of(pixel);
+    match change {
+        Change::Fill { window, value } => {
+            let value = value_in(pixel, value)?;
+            Some(Change::Fill {
+                window: window_of_samples(x, y, width, height, window)?,
+                value: value_on(pixel, layer, value),
+            })
+        }
+        Change::Mosaic {
+            window,
+            tile_width,
+            tile_height,
+        } => Some(Change::Mosaic {
+            window: window_of_samples(x, y, width, height, window)?,
+            tile_width: whole_samples(x, tile_width)?,
+            tile_height: whole_samples(y, tile_height)?,
+        }),
+        Change::Mean {
+            window,
+            tile_width,
+            tile_height,
+            bytes: _,
+        } => Some(Change::Mean {
+            window: window_of_samples(x, y, width, height, window)?,
+            tile_width: whole_samples(x, tile_width)?,
+            tile_height: whole_samples(y, tile_height)?,
+            bytes,
+        }),
+        Change::Blur {
+            window,
+            across,
+            down,
+            bytes: _,
+        } => Some(Change::Blur {
+            window: window_of_samples(x, y, width, height, window)?,
+            across: count_samples(across, x),
+            down: count_samples(down, y),
+            bytes,
+        }),
+        Change::Move { window, left, top } => {
+            let under = window_of_samples(x, y, width, height, window)?;
+            let goal = Window::new(left, top, window.width, window.height);
+            let goal = window_of_samples(x, y, width, height, goal)?;
+            Some(Change::Move {
+                window: under,
+                left: goal.left,
+                top: goal.top,
+            })
+        }
+        Change::Flip(axes) => Some(Change::Flip(axes)),
     }
 }
 

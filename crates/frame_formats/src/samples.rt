@@ -1,15 +1,15 @@
-//! Numbers, windows and changes of pixels as those of chroma samples.
+//! Numbers, windows and sizes of pixels as those of chroma samples.
 
 ghost use Rattle.std.specs.Prelude.{◌≡◌, ◌<◌};
-ghost use Rattle.frame_formats.specs.Sampling.{samples, ends_on_sample, window_under, exact_samples, change_under};
+ghost use Rattle.frame_formats.specs.Sampling.{samples, ends_on_sample, window_under, exact_samples};
 ghost use Rattle.frame_formats.specs.Framings.{resize_under};
 
 use crate::steps::no_colour;
 use frame_heads::Pixel;
-use image_planes::{Change, Resize, Value, Window};
+use image_planes::{Resize, Window};
 
-// The number of samples for so many pixels, where it is a whole one.
-fn whole_samples(step: usize, pixels: usize) -> Option<usize>
+/// The number of samples for so many pixels, where it is a whole one.
+pub(crate) fn whole_samples(step: usize, pixels: usize) -> Option<usize>
     requires { 0 < step }
     ensures { result ≡ exact_samples step pixels }
 {
@@ -39,9 +39,9 @@ fn ends_on_sample(step: usize, pixels: usize, start: usize, count: usize) -> boo
     count % step == 0 || (start <= pixels && pixels - start == count)
 }
 
-// The window of samples under one of a frame of so many pixels.
+/// The window of samples under one of a frame of so many pixels.
 #[tactic(auto, unfolding(crate::specs::Sampling::window_under))]
-fn window_of_samples(
+pub(crate) fn window_of_samples(
     x: usize,
     y: usize,
     width: usize,
@@ -62,70 +62,6 @@ fn window_of_samples(
         Some(Window::new(window.left / x, window.top / y, columns, rows))
     } else {
         None
-    }
-}
-
-// The change of chroma samples under a change of pixels.
-#[tactic(auto, unfolding(crate::specs::Sampling::change_under))]
-pub(crate) fn change_of_samples(
-    pixel: Pixel,
-    x: usize,
-    y: usize,
-    width: usize,
-    height: usize,
-    change: Change<Value>,
-) -> Option<Change<Value>>
-    requires across { 0 < x }
-    requires down { 0 < y }
-    ensures { result ≡ change_under pixel x y width height change }
-{
-    match change {
-        Change::Fill { window, value: _ } => Some(Change::Fill {
-            window: window_of_samples(x, y, width, height, window)?,
-            value: no_colour(pixel),
-        }),
-        Change::Mosaic {
-            window,
-            tile_width,
-            tile_height,
-        } => Some(Change::Mosaic {
-            window: window_of_samples(x, y, width, height, window)?,
-            tile_width: whole_samples(x, tile_width)?,
-            tile_height: whole_samples(y, tile_height)?,
-        }),
-        Change::Mean {
-            window,
-            tile_width,
-            tile_height,
-            bytes,
-        } => Some(Change::Mean {
-            window: window_of_samples(x, y, width, height, window)?,
-            tile_width: whole_samples(x, tile_width)?,
-            tile_height: whole_samples(y, tile_height)?,
-            bytes,
-        }),
-        Change::Blur {
-            window,
-            across,
-            down,
-            bytes,
-        } => Some(Change::Blur {
-            window: window_of_samples(x, y, width, height, window)?,
-            across: count_samples(across, x),
-            down: count_samples(down, y),
-            bytes,
-        }),
-        Change::Move { window, left, top } => {
-            let under = window_of_samples(x, y, width, height, window)?;
-            let goal = Window::new(left, top, window.width, window.height);
-            let goal = window_of_samples(x, y, width, height, goal)?;
-            Some(Change::Move {
-                window: under,
-                left: goal.left,
-                top: goal.top,
-            })
-        }
-        Change::Flip(axes) => Some(Change::Flip(axes)),
     }
 }
 

@@ -1,6 +1,6 @@
 //! The edits as steps of a frame of a size.
 
-ghost use Rattle.std.specs.Prelude.{◌≡◌, ◌≢◌, ◌<◌, ◌+◌, ◌-◌, ◌++◌, ◌∷◌, [], IfSome, IfOk, IfErr, OnOk, Some, None};
+ghost use Rattle.std.specs.Prelude.{◌≡◌, ◌≢◌, IfOk, IfErr, Some, None};
 ghost use Rattle.frame_edits.specs.Covers.{IsUnit, one_pixel};
 ghost use Rattle.frame_formats.specs.Plan.{Tells};
 ghost use Rattle.frame_formats.specs.Steps.{all_some, first_made, step_in};
@@ -40,23 +40,10 @@ pub(crate) fn step_of(
     Some(Step { first, end, change })
 }
 
-// Adds a step, where there is one.
-fn push_step(steps: &mut Vec<Step<Paint>>, step: Option<Step<Paint>>) -> Result<(), PlanFault>
-    ensures pushed { OnOk result (IfSome step (λ step. steps.new.items ≡ steps.old.items ++ step ∷ [])) }
-    ensures some { OnOk result (step ≢ None) }
-    ensures fault { IfErr result (Tells (step ≡ None)) }
-    ensures memory { IfErr result (λ e. e ≡ PlanFault.Memory → step ≢ None) }
-{
-    let Some(step) = step else {
-        return Err(PlanFault::Outside);
-    };
-    steps.push(step)?;
-    Ok(())
-}
-
 /// The edits as steps of a frame of this size. A cover is the fill that it is there, and a range of
 /// times has the frames that are in it at this rate. An interlaced video takes no change that
 /// exchanges its fields.
+#[tactic(auto, using(crate::proofs::StepsEach::one_more, crate::proofs::StepsEach::one_stops, crate::proofs::StepsEach::first_more))]
 pub(crate) fn settle_all(
     alloc: Global,
     unit: Unit,
@@ -75,7 +62,8 @@ pub(crate) fn settle_all(
 {
     let mut all = Vec::new(alloc);
     for edit in edits {
-        push_step(&mut all, step_of(unit, rate, width, height, *edit))?;
+        let step = step_of(unit, rate, width, height, *edit);
+        all.push(step.ok_or(PlanFault::Outside)?)?;
     }
     Ok(all)
 }

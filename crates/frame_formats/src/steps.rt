@@ -1,11 +1,11 @@
-//! What changes of pixels are on the plane of a kind of pixel.
+//! The bytes of pixels of a kind, by the values of their samples.
 
 ghost use Rattle.std.specs.Prelude.{◌≡◌, ◌∷◌, ◌<◌, ◌%◌, ◌/◌, []};
-ghost use Rattle.frame_formats.specs.Steps.{bytes_of, pixel_bytes, black, grey_of, colour_of, no_colour, opaque, value_in, change_in};
+ghost use Rattle.frame_formats.specs.Steps.{bytes_of, pixel_bytes, black, grey_of, colour_of, no_colour, opaque, value_in};
 
 use frame_edits::Paint;
 use frame_heads::Pixel;
-use image_planes::{Change, SampleBytes, Value};
+use image_planes::{SampleBytes, Value};
 
 // The low byte of a number, and the high one.
 fn halves(value: u16) -> (u8, u8)
@@ -99,8 +99,9 @@ pub(crate) fn opaque(pixel: Pixel) -> Value
     pixel_of(pixel, greatest, greatest, greatest, greatest)
 }
 
-// The bytes that such a pixel gets.
-fn value_in(pixel: Pixel, paint: Paint) -> Option<Value>
+/// The bytes that such a pixel gets. `None` for a value that it lacks, and for a colour where there is
+/// one brightness.
+pub(crate) fn value_in(pixel: Pixel, paint: Paint) -> Option<Value>
     ensures { result ≡ value_in pixel paint }
 {
     match paint {
@@ -114,8 +115,8 @@ fn value_in(pixel: Pixel, paint: Paint) -> Option<Value>
     }
 }
 
-// The bytes of a sample.
-fn bytes_of(pixel: Pixel) -> SampleBytes
+/// The bytes of a sample.
+pub(crate) fn bytes_of(pixel: Pixel) -> SampleBytes
     ensures { result ≡ bytes_of pixel }
 {
     if pixel.greatest < 256 {
@@ -125,53 +126,5 @@ fn bytes_of(pixel: Pixel) -> SampleBytes
         SampleBytes::HighFirst
     } else {
         SampleBytes::LowFirst
-    }
-}
-
-/// What a change is on a plane of such pixels. `None` for a value that they lack, and for a colour
-/// where there is one brightness. Means are those of their samples, and so are blurs.
-#[tactic(auto, unfolding(crate::specs::Steps::change_in))]
-pub(crate) fn change_in(pixel: Pixel, change: Change<Paint>) -> Option<Change<Value>>
-    ensures { result ≡ change_in pixel change }
-{
-    let bytes = bytes_of(pixel);
-    match change {
-        Change::Fill { window, value } => Some(Change::Fill {
-            window,
-            value: value_in(pixel, value)?,
-        }),
-        Change::Mosaic {
-            window,
-            tile_width,
-            tile_height,
-        } => Some(Change::Mosaic {
-            window,
-            tile_width,
-            tile_height,
-        }),
-        Change::Mean {
-            window,
-            tile_width,
-            tile_height,
-            bytes: _,
-        } => Some(Change::Mean {
-            window,
-            tile_width,
-            tile_height,
-            bytes,
-        }),
-        Change::Blur {
-            window,
-            across,
-            down,
-            bytes: _,
-        } => Some(Change::Blur {
-            window,
-            across,
-            down,
-            bytes,
-        }),
-        Change::Move { window, left, top } => Some(Change::Move { window, left, top }),
-        Change::Flip(axes) => Some(Change::Flip(axes)),
     }
 }

@@ -1,17 +1,18 @@
 -- Steps block by block: a block whose span lacks a frame changes nothing of it.
-use Rattle.std.proofs.Common.{◌≡◌, ℕ, zero, suc, ◌+◌, ◌<◌, ◌≤◌, ◌&&◌, Bool, true, false, cond, List, [], ◌∷◌, ◌++◌, length, get_or, take, drop, max, min, refl, ap, ap₂, sym, ◌∙◌, ◌/◌, arith, inl, inr, add-one, append_assoc, drop-cons, drop-drop, zero-mul, suc-mul, ◌*◌, subst}
+use Rattle.std.proofs.Common.{◌≡◌, ℕ, zero, suc, ◌+◌, ◌<◌, ◌≤◌, ◌&&◌, Bool, true, false, cond, List, [], ◌∷◌, ◌++◌, length, get_or, take, drop, max, min, refl, ap, ap₂, sym, ◌∙◌, ◌/◌, ◌%◌, arith, inl, inr, append_assoc, drop-drop, length-drop, zero-mul, suc-mul, ◌*◌}
 use Rattle.std.proofs.Math.Nat.{min-eq_left, min-eq_right}
 use Rattle.std.proofs.lemmas.Bool.{cases_lt}
-use Rattle.std.proofs.lemmas.List.{take_all, drop_all, drop-take}
+use Rattle.std.proofs.lemmas.Nat.{div-add-mod'}
+use Rattle.std.proofs.lemmas.List.{take_all, drop_all}
 use Rattle.std.proofs.lemmas.List.Folds.{list_all_more}
 use Rattle.image_model.specs.Grid.{Grid, grid_of}
 use Rattle.image_model.specs.Layout.{SameOutside}
-use Rattle.image_model.proofs.Places.{outside_trans}
+use Rattle.image_model.proofs.Places.{outside_refl, outside_trans}
 use Rattle.image_shape.specs.Shape.{shaped, shape_width, shape_height}
 use Rattle.image_shape.specs.declared.shape.Shape.{Shape}
 use Rattle.image_planes.specs.Changes.{are_inside, changed, names, stepped}
 use Rattle.image_planes.specs.Scratch.{have_room}
-use Rattle.image_planes.specs.Spans.{has, has_all, are_spans_by}
+use Rattle.image_planes.specs.Spans.{are_groups, are_spans, has, has_all, are_spans_by}
 use Rattle.image_planes.specs.declared.change.Step.{Step}
 use Rattle.image_planes.specs.declared.spans.Span.{Span}
 
@@ -76,39 +77,34 @@ one_step_more old new steps i d within first end all =
 pub one_span_more : (many : ℕ) (made rest : List Span) (span : Span) (steps left : List (Step (List ℕ))) → ((others : List Span) → are_spans_by many others left ≡ true → are_spans_by many (made ++ others) steps ≡ true) → has_all span (take many left) ≡ true → are_spans_by many rest (drop many left) ≡ true → are_spans_by many ((made ++ span ∷ []) ++ rest) steps ≡ true
 one_span_more many made rest span steps left so_far all are = rw append_assoc (so_far (span ∷ rest) (and_both (has_all span (take many left)) (are_spans_by many rest (drop many left)) all are))
 
--- and that block is the next one
-pub span_at : (many : ℕ) (spans : List Span) (i : ℕ) (d : Span) (left : List (Step (List ℕ))) → i < length spans → are_spans_by many (drop i spans) left ≡ true → (has_all (get_or spans i d) (take many left) ≡ true) × (are_spans_by many (drop (i + 1) spans) (drop many left) ≡ true)
-span_at many spans i d left within are =
-    both _ _ (rw add-one (subst (λ (ss : List Span). are_spans_by many ss left ≡ true) (drop-cons spans i d within) are))
+-- a step is in a block, which has a span
+span_over : (many : ℕ) (spans : List Span) (i : ℕ) (d : Span) (steps : List (Step (List ℕ))) → are_spans_by many spans steps ≡ true → i * many < length steps → (i < length spans) × (has_all (get_or spans i d) (take many (drop (i * many) steps)) ≡ true)
+span_over many [] i d steps are there = let none : length steps ≡ 0 = grind (arith, are) in absurd (omega (arith, none, there))
+span_over many (s ∷ ss) zero d steps are there = rw (zero-mul many) (omega arith, (both (has_all s (take many steps)) (are_spans_by many ss (drop many steps)) are).0)
+span_over many (s ∷ ss) (suc i) d steps are there =
+    let one_more : suc i * many ≡ many + i * many = omega (arith, suc-mul i many) in
+    let more = span_over many ss i d (drop many steps) (both (has_all s (take many steps)) (are_spans_by many ss (drop many steps)) are).1 (omega (arith, there, one_more, length-drop many steps)) in
+    (omega (arith, more.0), rw one_more (ap (λ (l : List (Step (List ℕ))). has_all (get_or ss i d) (take many l)) (sym (drop-drop (i * many) many steps)) ∙ more.1))
 
--- no steps are left without a span
-no_steps : (many : ℕ) (steps : List (Step (List ℕ))) → are_spans_by many [] steps ≡ true → steps ≡ []
-no_steps many steps none = drop_all 0 steps (grind (arith, none))
+some_left : {A : Type 0} (k : ℕ) (xs left : List A) → left ≡ drop k xs → 0 < length left → k < length xs
+some_left k xs left at some = omega (arith, some, ap length at, length-drop k xs)
 
-pub none_left : (many : ℕ) (spans : List Span) (i : ℕ) (left : List (Step (List ℕ))) → length spans ≤ i → are_spans_by many (drop i spans) left ≡ true → left ≡ []
-none_left many spans i left past are = no_steps many left (subst (λ (ss : List Span). are_spans_by many ss left ≡ true) (drop_all i spans past) are)
+-- the steps that are left begin with a block
+pub block_over : (spans : List Span) (block : ℕ) (d : Span) (steps left : List (Step (List ℕ))) → are_spans spans steps ≡ true → left ≡ drop (block * 64) steps → 0 < length left → (block < length spans) × (has_all (get_or spans block d) (take 64 left) ≡ true)
+block_over spans block d steps left are at some =
+    let one = span_over 64 spans block d steps are (some_left (block * 64) steps left at some) in
+    (one.0, ap (λ (l : List (Step (List ℕ))). has_all (get_or spans block d) (take 64 l)) at ∙ one.1)
 
--- the spans of so many blocks are those of their steps, and so are the others
-front_of : {A : Type 0} (n k : ℕ) (xs : List A) → n ≤ k → take n (take k xs) ≡ take n xs
-front_of zero k xs within = refl
-front_of (suc n) zero xs within = grind (arith, within)
-front_of (suc n) (suc k) [] within = refl
-front_of (suc n) (suc k) (x ∷ xs) within = ap (λ l. x ∷ l) (front_of n k xs (omega (arith, within)))
+-- they begin with a group where this is the first of its blocks
+pub group_over : (groups : List Span) (block : ℕ) (d : Span) (steps left : List (Step (List ℕ))) → are_groups groups steps ≡ true → left ≡ drop (block * 64) steps → 0 < length left → (block / 64 < length groups) × (block % 64 ≡ 0 → has_all (get_or groups (block / 64) d) (take 4096 left) ≡ true)
+group_over groups block d steps left are at some =
+    let parts = div-add-mod' block 64 in
+    let one = span_over 4096 groups (block / 64) d steps are (omega (arith, parts, some_left (block * 64) steps left at some)) in
+    (one.0, λ first. let same : block * 64 ≡ block / 64 * 4096 = omega (arith, parts, first) in ap (λ (l : List (Step (List ℕ))). has_all (get_or groups (block / 64) d) (take 4096 l)) (at ∙ ap (λ k. drop k steps) same) ∙ one.1)
 
-pub spans_in_parts : (many k : ℕ) (spans : List Span) (steps : List (Step (List ℕ))) → are_spans_by many spans steps ≡ true → (are_spans_by many (take k spans) (take (k * many) steps) ≡ true) × (are_spans_by many (drop k spans) (drop (k * many) steps) ≡ true)
-spans_in_parts many zero spans steps are = rw (zero-mul many) (refl, are)
-spans_in_parts many (suc k) [] steps are =
-    let none = no_steps many steps are in
-    (ap (are_spans_by many []) (ap (take (suc k * many)) none ∙ take_all (suc k * many) [] (omega arith)), ap (are_spans_by many []) (ap (drop (suc k * many)) none ∙ drop_all (suc k * many) [] (omega arith)))
-spans_in_parts many (suc k) (span ∷ spans) steps are =
-    let parts = both (has_all span (take many steps)) (are_spans_by many spans (drop many steps)) are in
-    let more = spans_in_parts many k spans (drop many steps) parts.1 in
-    let one_more : suc k * many ≡ many + k * many = omega (arith, suc-mul k many) in
-    rw one_more (
-      and_both (has_all span (take many (take (many + k * many) steps))) (are_spans_by many (take k spans) (drop many (take (many + k * many) steps)))
-          (ap (has_all span) (front_of many (many + k * many) steps (omega arith)) ∙ parts.0) (ap (are_spans_by many (take k spans)) (drop-take many (k * many) steps) ∙ more.0),
-      ap (are_spans_by many (drop k spans)) (sym (drop-drop (k * many) many steps)) ∙ more.1,
-    )
+-- where the steps after so many begin
+pub next_at : {A : Type 0} (k n next : ℕ) (xs left others : List A) → left ≡ drop k xs → others ≡ drop n left → next ≡ k + n → others ≡ drop next xs
+next_at k n next xs left others at back is = back ∙ ap (λ l. drop n l) at ∙ drop-drop n k xs ∙ ap (λ m. drop m xs) (sym is)
 
 -- the steps that are left make of what is there what all of them make of what was there
 pub record StepsLeft (s : Shape) (size number copy sums : ℕ) (steps left : List (Step (List ℕ))) (old now : List ℕ) : Type 0 where
@@ -126,3 +122,8 @@ block_done s size number copy sums n steps left others old now new so back done 
   inside = ap (are_inside (shape_width s / size) (shape_height s)) back ∙ (inside_parts (shape_width s / size) (shape_height s) n left so.inside).1;
   room = ap (have_room (length old) (shape_width s) copy sums) back ∙ (room_parts (length old) (shape_width s) copy sums n left so.room).1;
 }
+
+-- it is skipped where its span lacks the frame
+pub block_passed : (s : Shape) (size number copy sums n : ℕ) (span : Span) (steps left others : List (Step (List ℕ))) (old now : List ℕ) → StepsLeft s size number copy sums steps left old now → others ≡ drop n left → has_all span (take n left) ≡ true → has span number ≡ false → StepsLeft s size number copy sums steps others old now
+block_passed s size number copy sums n span steps left others old now so back all lacks =
+    block_done s size number copy sums n steps left others old now now so back (sym (block_skipped size number span (take n left) (grid_of (shaped now s)) all lacks)) (outside_refl (shaped now s))

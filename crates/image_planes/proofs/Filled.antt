@@ -1,6 +1,5 @@
 -- What fills fill is hidden, where no change before one of them spreads pixels.
-use Rattle.std.proofs.Common.{◌≡◌, ℕ, ◌-◌, ◌/◌, ◌&&◌, ◌||◌, Bool, true, false, not, if◌then◌else◌, List, [], ◌∷◌, take, drop, refl, sym, ◌∙◌, arith}
-use Rattle.std.specs.List.{list_any}
+use Rattle.std.proofs.Common.{◌≡◌, ℕ, ◌-◌, ◌/◌, ◌&&◌, ◌||◌, Bool, true, false, not, if◌then◌else◌, List, [], ◌∷◌, take, drop, refl}
 use Rattle.image_model.specs.Grid.{Grid, covers}
 use Rattle.image_planes.specs.Changes.{Job, job_len, plane_grid, names}
 use Rattle.image_planes.specs.Unseen.{GridsAlike, PlanesAlike, hidden_by, is_hidden}

@@ -1,6 +1,6 @@
 //! A plane of a frame, and its changes.
 
-ghost use Rattle.std.specs.Prelude.{◌≡◌, ◌<◌, ◌≤◌, ◌*◌, ◌/◌, length, IfOk, IsTrue};
+ghost use Rattle.std.specs.Prelude.{◌≡◌, ◌<◌, ◌≤◌, ◌*◌, ◌/◌, ◌^◌, length, nat_lt, IfOk, IsTrue};
 ghost use Rattle.std.specs.Option.{option_map};
 ghost use Rattle.image_shape.specs.Shape.{shape_width, shape_height, shape_stride};
 ghost use Rattle.image_planes.specs.Changes.{is_change_of, is_plane, are_inside, job_for, changed_plane};
@@ -8,24 +8,27 @@ ghost use Rattle.image_planes.specs.Scratch.{copy_len, sums_len, have_blur};
 ghost use Rattle.image_planes.specs.Spans.{are_spans, are_groups};
 
 use crate::change::{Step, Value, is_blur};
-use crate::spans::{BLOCK, GROUP, Span, do_groups, spans_of};
+use crate::spans::{BLOCK, GROUP, Span, do_blocks, spans_of};
 use crate::steps::all_inside;
 use image_commands::Change;
 use image_shape::{Shape, Window};
 use std::alloc::{AllocError, Global};
 
+/// Whether a row of so many pixels has fewer than 2^32 bytes.
+pub(crate) fn is_row(size: usize, width: usize) -> bool
+    ensures { result ≡ nat_lt (size * width) (2 ^ 32) }
+{
+    match size.checked_mul(width) {
+        Some(bytes) => bytes <= u32::MAX as usize,
+        None => false,
+    }
+}
+
 /// Whether pixels of so many bytes make a plane of this size.
 pub(crate) fn is_plane(size: usize, width: usize, height: usize) -> bool
     ensures { result ≡ is_plane size width height }
 {
-    let greatest = u32::MAX as usize;
-    if size == 0 || size > 8 || width == 0 || height > greatest {
-        return false;
-    }
-    match size.checked_mul(width) {
-        Some(bytes) => bytes <= greatest,
-        None => false,
-    }
+    size > 0 && size < 9 && width > 0 && is_row(size, width) && height <= u32::MAX as usize
 }
 
 /// A plane of a frame, which is an image of pixels of some bytes without padding, and its changes.
@@ -60,10 +63,7 @@ impl Plane {
         ensures { IfOk result
             (λ plane. option_map job_of plane ≡ job_for size width height steps.items) }
     {
-        if !is_plane(size, width, height) {
-            return Ok(None);
-        }
-        if !all_inside(width, height, &steps) {
+        if !is_plane(size, width, height) || !all_inside(width, height, &steps) {
             return Ok(None);
         }
         let spans = spans_of(alloc, &steps, BLOCK)?;
@@ -135,7 +135,7 @@ impl Plane {
         requires sums { sums_len (job_of self.now) ≤ length sums.old }
         ensures { cells.new ≡ changed_plane number (job_of self.now) cells.old }
     {
-        do_groups(
+        do_blocks(
             cells,
             self.shape(),
             self.size,

@@ -73,39 +73,11 @@ pub(crate) fn spans_of(
     Ok(spans)
 }
 
-// Applies the steps for the frame of this number to the image that the bytes make in this shape,
-// block by block. A pixel has `size` bytes; the padding stays. What the copy and the sums had is lost.
+/// Applies the steps for the frame of this number to the image that the bytes make in this shape,
+/// block by block. A group without this frame is passed over at once. A pixel has `size` bytes; the
+/// padding stays. What the copy and the sums had is lost.
 #[tactic(auto, using(crate::proofs::Blocks::inside_parts, crate::proofs::Blocks::room_parts))]
-fn do_blocks(
-    cells: &mut [u8],
-    shape: Shape,
-    size: usize,
-    steps: &[Step<Value>],
-    spans: &[Span],
-    number: u64,
-    copy: &mut [u8],
-    sums: &mut [u32],
-)
-    requires steps { AreFor cells.old shape size (length copy.old) (length sums.old) steps.now }
-    requires spans { IsTrue (are_spans spans.now steps.now) }
-    ensures { Becomes shape cells.old cells.new
-        (stepped size number steps.now (grid_of (shaped cells.old shape))) }
-{
-    let mut left = steps;
-    for span in spans {
-        let (block, others) = left.split_at(left.len().min(BLOCK));
-        left = others;
-        if span.has(number) {
-            do_steps(cells, shape, size, block, number, copy, sums);
-        }
-    }
-}
-
-/// Applies the steps for the frame of this number to the image that the bytes make in this shape, by
-/// groups and blocks. A pixel has `size` bytes; the padding stays. What the copy and the sums had is
-/// lost.
-#[tactic(auto, using(crate::proofs::Blocks::inside_parts, crate::proofs::Blocks::room_parts))]
-pub(crate) fn do_groups(
+pub(crate) fn do_blocks(
     cells: &mut [u8],
     shape: Shape,
     size: usize,
@@ -123,14 +95,19 @@ pub(crate) fn do_groups(
         (stepped size number steps.now (grid_of (shaped cells.old shape))) }
 {
     let mut left = steps;
-    let mut spans_left = spans;
-    for group in groups {
-        let (part, others) = left.split_at(left.len().min(GROUP));
-        let (its, more) = spans_left.split_at(spans_left.len().min(BLOCKS));
-        left = others;
-        spans_left = more;
-        if group.has(number) {
-            do_blocks(cells, shape, size, part, its, number, copy, sums);
+    let mut block = 0;
+    while !left.is_empty() {
+        if block % BLOCKS == 0 && !groups[block / BLOCKS].has(number) {
+            let (_, others) = left.split_at(left.len().min(GROUP));
+            left = others;
+            block += BLOCKS;
+        } else {
+            let (part, others) = left.split_at(left.len().min(BLOCK));
+            if spans[block].has(number) {
+                do_steps(cells, shape, size, part, number, copy, sums);
+            }
+            left = others;
+            block += 1;
         }
     }
 }

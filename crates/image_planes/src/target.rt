@@ -16,7 +16,7 @@ ghost use Rattle.image_turns.specs.Oriented.{oriented};
 ghost use Rattle.image_planes.specs.Resized.{orientation_of, is_resize_of, new_width, new_height, resizing_for, resized_plane, source_len, target_len};
 
 use crate::change::{Value, in_bytes};
-use crate::plane::is_plane;
+use crate::plane::{is_plane, is_row};
 use image_commands::Quarter;
 use image_ops::{copy_pixels, copy_window, repeat_window};
 use image_shape::{Shape, Window};
@@ -200,23 +200,13 @@ impl Resize {
         match self {
             Resize::Crop(window) => window.width > 0 && window.is_inside(width, height),
             Resize::Pad { left, top, .. } => {
-                let greatest = u32::MAX as usize;
                 let (wide, high) = (self.width(), self.height());
-                let Some(bytes) = size.checked_mul(wide) else {
-                    return false;
-                };
                 let place = Window::new(*left, *top, width, height);
-                bytes <= greatest && high <= greatest && place.is_inside(wide, high)
+                is_row(size, wide) && high <= u32::MAX as usize && place.is_inside(wide, high)
             }
             Resize::Turn { .. } => {
                 let (wide, high) = (self.width(), self.height());
-                if wide != height || high != width || wide == 0 {
-                    return false;
-                }
-                match size.checked_mul(wide) {
-                    Some(bytes) => bytes <= u32::MAX as usize,
-                    None => false,
-                }
+                wide == height && high == width && wide > 0 && is_row(size, wide)
             }
         }
     }
@@ -232,10 +222,7 @@ impl Target {
     pub fn new(size: usize, width: usize, height: usize, resize: Resize) -> Option<Target>
         ensures { option_map resizing_of result ≡ resizing_for size width height resize }
     {
-        if !is_plane(size, width, height) {
-            return None;
-        }
-        if !resize.is_of(size, width, height) {
+        if !is_plane(size, width, height) || !resize.is_of(size, width, height) {
             return None;
         }
         Some(Target {

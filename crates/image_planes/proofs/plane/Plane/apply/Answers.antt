@@ -6,8 +6,8 @@ use Rattle.image_shape.specs.Shape.{shape_width}
 use Rattle.image_planes.specs.Scratch.{have_room}
 use Rattle.image_planes.proofs.plane.Plane.apply.Goals as goal
 
-pub do_groups-requires-clause-steps : goal.do_groups-requires-clause-steps
-do_groups-requires-clause-steps c =
+pub do_blocks-requires-clause-steps : goal.do_blocks-requires-clause-steps
+do_blocks-requires-clause-steps c =
     let j = c.args.self.now in
     let s = c.shape.ensures in
     let len : ℕ = length c.args.cells.now in
