@@ -37,7 +37,7 @@ CASES = [
     ("image_regions", "entries", "map_by", NO_ROOM, "image_regions"),
     ("image_regions", "floods", "flood_fill", NO_ROOM, "image_regions"),
     ("image_regions", "labels", "components", NO_ROOM, "image_regions"),
-    ("imgref_replay", "run", "replay", NO_ROOM, "imgref_replay_tests"),
+    ("imgref_replay", "run", "replay", NO_ROOM, "window_tests"),
     ("script_text", "script", "next", "if true { return Err(ScriptFault::Memory); }", "imgref_run"),
     ("script_text", "output", "push_reply", NO_MORE_ROOM, "imgref_run"),
     ("script_text", "output", "push_images", NO_MORE_ROOM, "imgref_run"),
@@ -61,7 +61,7 @@ RUNS = [
     ("frame_runs", "program", "run", "if true { return Err(RunFault::Memory(0)); }", VIDEO, FILL),
 ]
 # The files that are kept of a crate with many tests.
-FILES = {"imgref_hostile_tests": ("contiguous", "copies", "fixtures"), "imgref_replay_tests": ("commands", "fixtures")}
+FILES = {"imgref_hostile_tests": ("contiguous", "copies", "fixtures"), "window_tests": ("commands", "fixtures")}
 
 
 def keep_tests(crate, files):

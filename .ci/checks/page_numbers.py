@@ -60,7 +60,7 @@ def with_contracts():
 
 ALL = sentences.documents()
 FRAMES, SPANS = "crates/frame_runs/src", "crates/image_planes/src/spans.rt"
-WINDOWS, NESTED = "crates/imgref_hostile_tests/src/tests/windows.rt", "crates/imgref_replay_tests/src/tests/nested.rt"
+WINDOWS, NESTED = "crates/imgref_hostile_tests/src/tests/windows.rt", "crates/window_tests/src/tests/nested.rt"
 # The pages (all, where none is named), how a page says a number, and the number.
 NUMBERS = [
     ((), "{} tests ·", tests),

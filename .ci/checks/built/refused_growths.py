@@ -38,7 +38,7 @@ PICTURE_EDITS = ("fill 0,0,2,2 16", "blur 0,0,2,2 1", "mosaic 0,0,2,2 2,2 crop 0
 # What a test says whose result is the refusal: of a call, of a push to a vector, and of a run.
 HANDED_ON = (b"error: AllocError\n", b"error: AllocFailed { .. }\n", b"error: Memory\n")
 # A crate of tests, a test, the same without its one call that takes memory, and how many growths that call takes.
-CALLS = [("imgref_replay_tests", "tests::commands::refused_memory_changes_nothing", "tests::commands::what_replay_is_given", 1),
+CALLS = [("window_tests", "tests::commands::refused_memory_changes_nothing", "tests::commands::what_replay_is_given", 1),
          ("imgref_hostile_tests", "tests::memory::a_copy_takes_its_room_at_once", "tests::memory::what_needs_no_memory_takes_none", 2)]
 # No test and no program takes more growths than this.
 MOST = 10_000

@@ -1,7 +1,7 @@
 -- Lines of edits, by what their words are.
 use Rattle.std.proofs.Common.{◌≡◌, ◌≢◌, ◌++◌, ℕ, Bool, true, false, List, [], ◌∷◌, Option, Some, None, refl, sym, ap, ◌∙◌}
 use Rattle.std.specs.Option.{is_some, option_map}
-use Rattle.text_model.specs.Reading.{◌>>=◌}
+use Rattle.texts.specs.Reading.{◌>>=◌}
 use Rattle.frame_edits.specs.Edits.{Edits, edits}
 use Rattle.frame_edits.specs.Lists.{WordsAre, edit_of, framing_of, steps_of, with_line, with_lines, with_one, with_words}
 use Rattle.frame_edits.specs.Words.{Named}
@@ -9,7 +9,7 @@ use Rattle.frame_edits.specs.declared.found.Found.{Found}
 use Rattle.frame_edits.specs.declared.found.Line.TheVariants.{Blank, Edit as One, Bad}
 use Rattle.frame_edits.specs.declared.framing.Framing.{Framing}
 use Rattle.frame_edits.specs.declared.words.Edit.{Edit}
-use Rattle.frame_lists.specs.Lines.{line_words}
+use Rattle.frame_texts.specs.Lines.{line_words}
 use Rattle.frame_edits.proofs.EditsEach.{none_of}
 
 -- ---- one line

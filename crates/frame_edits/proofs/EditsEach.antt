@@ -4,15 +4,15 @@ use Rattle.std.specs.List.{flat_map}
 use Rattle.std.proofs.Math.Seq.{take-append_seam}
 use Rattle.std.specs.Option.{is_some, option_map}
 use Rattle.std.proofs.lemmas.Bool.Decides.{eqb_tells}
-use Rattle.text_model.proofs.Options.{some_is, map_some}
+use Rattle.texts.proofs.Options.{some_is, map_some}
 use Rattle.frame_edits.specs.declared.words.Edit.{Edit}
 use Rattle.frame_edits.specs.declared.framing.Framing.{Framing}
 use Rattle.frame_edits.specs.declared.lists.Edits.{Edits}
 use Rattle.frame_edits.specs.declared.found.Found.{Found}
 use Rattle.frame_edits.specs.Lists.{AreEdits, Adds, HaveEdits, NeedsMemory, framing_after, edit_of, with_one, with_words, with_line, with_lines, plain, IsEditLine, NeedsPlace, named_of}
-use Rattle.frame_lists.specs.Lines.{line_words}
+use Rattle.frame_texts.specs.Lines.{line_words}
 use Rattle.frame_edits.specs.Edits.{edits, Edits as Plain}
-use Rattle.text_model.specs.Reading.{◌>>=◌}
+use Rattle.texts.specs.Reading.{◌>>=◌}
 use Rattle.std.specs.Prelude.{IfSome}
 use Rattle.frame_edits.specs.Words.{Named, edit_at, framing_at, named, ranged_at, with_edit}
 

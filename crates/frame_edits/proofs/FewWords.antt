@@ -4,17 +4,17 @@ use Rattle.std.specs.Prelude.{◌==◌, if◌then◌else◌, IfSome, codes}
 use Rattle.std.specs.Str.{bytes_eq}
 use Rattle.std.specs.Option.{option_map}
 use Rattle.std.proofs.lemmas.Bool.Decides.{eqb_tells}
-use Rattle.text_model.specs.Reading.{◌>>=◌, number_of, window_of}
+use Rattle.texts.specs.Reading.{◌>>=◌, number_of, window_of}
 use Rattle.image_shape.specs.declared.window.Window.{Window}
 use Rattle.image_commands.specs.declared.changes.Axes.{Axes}
 use Rattle.image_commands.specs.declared.changes.Quarter.{Quarter}
-use Rattle.frame_lists.specs.Ranges.{range_of}
-use Rattle.frame_lists.specs.declared.ranges.Range.{Range}
+use Rattle.frame_texts.specs.Ranges.{range_of}
+use Rattle.frame_texts.specs.declared.ranges.Range.{Range}
 use Rattle.frame_edits.specs.declared.framing.Framing.{Framing}
 use Rattle.frame_edits.specs.declared.words.Edit.{Edit}
 use Rattle.frame_edits.specs.declared.words.Scope.TheVariants.{Exact}
 use Rattle.frame_edits.specs.declared.framing.Framing.TheVariants.{Crop}
-use Rattle.frame_lists.specs.declared.ranges.Range.TheVariants.{Frames}
+use Rattle.frame_texts.specs.declared.ranges.Range.TheVariants.{Frames}
 use Rattle.frame_edits.specs.Lists.{edit_of}
 use Rattle.frame_edits.specs.Words.{Named, axes_of, change_at, change_of, cover_at, cover_by, edit_at, flip_by, framing_at, framing_by, named, other_at, pad_at, quarter_of, ranged_at, ranged_by, rectangle_of, step_at, turn_by}
 

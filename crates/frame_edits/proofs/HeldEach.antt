@@ -4,7 +4,7 @@ use Rattle.std.specs.List.{flat_map, range_with_len}
 use Rattle.std.proofs.lemmas.List.{append-nil}
 use Rattle.frame_edits.specs.Holds.{held}
 use Rattle.frame_edits.specs.declared.box_covers.BoxStyle.{BoxStyle}
-use Rattle.frame_lists.specs.declared.boxes.Tracked.{Tracked}
+use Rattle.frame_texts.specs.declared.boxes.Tracked.{Tracked}
 
 one_more : {A : Type 0} (f : ℕ → List A) (a n at : ℕ) → a + n ≡ at → flat_map f (range_with_len a (suc n)) ≡ flat_map f (range_with_len a n) ++ f at
 one_more f a zero at e = append-nil (f a) ∙ ap f (omega arith)

@@ -3,10 +3,10 @@ use Rattle.std.specs.Prelude.{◌≡◌, ℕ, ◌-◌, List, Option, Some, map, 
 use Rattle.std.specs.List.Sorted.{IsNonDecreasingBy, IsStableByKey}
 use Rattle.std.specs.Ordering.{nat_cmp}
 use Rattle.image_commands.specs.declared.changes.Change.TheVariants.{Fill}
-use Rattle.frame_lists.specs.declared.boxes.Tracked.{Tracked}
-use Rattle.frame_lists.specs.declared.ranges.Range.{Range}
-use Rattle.frame_lists.specs.declared.ranges.Range.TheVariants.{Frames, Times}
-use Rattle.frame_lists.specs.Boxes.{window_of_box, each_box}
+use Rattle.frame_texts.specs.declared.boxes.Tracked.{Tracked}
+use Rattle.frame_texts.specs.declared.ranges.Range.{Range}
+use Rattle.frame_texts.specs.declared.ranges.Range.TheVariants.{Frames, Times}
+use Rattle.frame_texts.specs.Boxes.{window_of_box, each_box}
 use Rattle.frame_edits.specs.Covers.{with_window}
 use Rattle.frame_edits.specs.declared.box_covers.BoxStyle.{BoxStyle}
 use Rattle.frame_edits.specs.declared.paint.Paint.TheVariants.{Black}

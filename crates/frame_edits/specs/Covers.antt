@@ -4,19 +4,19 @@ use Rattle.image_shape.specs.declared.window.Window.{Window}
 use Rattle.image_commands.specs.declared.changes.Change.{Change}
 use Rattle.image_commands.specs.declared.changes.Change.TheVariants.{Fill, Mosaic, Mean, Blur, Move, Flip}
 use Rattle.image_commands.specs.declared.changes.Axes.TheVariants.{Rows, Both}
-use Rattle.frame_lists.specs.Ranges.{frames_in}
-use Rattle.frame_heads.specs.declared.rate.Rate.{Rate}
+use Rattle.frame_texts.specs.Ranges.{frames_in}
+use Rattle.frame_texts.specs.declared.rate.Rate.{Rate}
 use Rattle.frame_edits.specs.Words.{no_window}
 use Rattle.frame_edits.specs.declared.words.Edit.{Edit}
 use Rattle.frame_edits.specs.declared.words.Scope.{Scope}
 use Rattle.frame_edits.specs.declared.words.Scope.TheVariants.{Exact, Boxed}
 use Rattle.frame_edits.specs.declared.covers.Unit.{Unit as Samples}
-use Rattle.frame_heads.specs.Format.{sampling}
-use Rattle.frame_heads.specs.declared.header.Chroma.{Chroma}
-use Rattle.frame_heads.specs.declared.header.Format.{Format}
+use Rattle.frame_texts.specs.Format.{sampling}
+use Rattle.frame_texts.specs.declared.header.Chroma.{Chroma}
+use Rattle.frame_texts.specs.declared.header.Format.{Format}
 use Rattle.frame_edits.specs.declared.paint.Paint.{Paint}
 use Rattle.frame_edits.specs.declared.paint.Paint.TheVariants.{Grey, Black, Around}
-use Rattle.frame_lists.specs.Boxes.{Has}
+use Rattle.frame_texts.specs.Boxes.{Has}
 
 abbrev pub unit : ℕ → ℕ → Samples
 unit across down = record { across = across; down = down; interlaced = false }

@@ -3,14 +3,14 @@ use Rattle.std.specs.Prelude.{◌≡◌, ℕ, ◌+◌, ◌-◌, ◌&&◌, Bool, 
 use Rattle.std.specs.List.{flat_map, range_with_len, slice_get}
 use Rattle.std.specs.List.Sorted.{IsNonDecreasingBy, IsStableByKey}
 use Rattle.std.specs.Ordering.{nat_cmp}
-use Rattle.frame_lists.specs.Boxes.{each_box}
+use Rattle.frame_texts.specs.Boxes.{each_box}
 use Rattle.frame_edits.specs.BoxCovers.{cover_of, first_of}
-use Rattle.frame_lists.specs.declared.boxes.Tracked.{Tracked}
+use Rattle.frame_texts.specs.declared.boxes.Tracked.{Tracked}
 use Rattle.frame_edits.specs.declared.box_covers.BoxStyle.{BoxStyle}
 use Rattle.frame_edits.specs.declared.words.Scope.TheVariants.{Boxed}
-use Rattle.frame_lists.specs.declared.ranges.Range.TheVariants.{Frames}
+use Rattle.frame_texts.specs.declared.ranges.Range.TheVariants.{Frames}
 use Rattle.frame_edits.specs.declared.words.Edit.{Edit}
-use Rattle.frame_lists.specs.Tracks.{around, missing, goes_on_at, comes_at, AreByTracks, KeepTies}
+use Rattle.frame_texts.specs.Tracks.{around, missing, goes_on_at, comes_at, AreByTracks, KeepTies}
 
 -- ---- covers
 

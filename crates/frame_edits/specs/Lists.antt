@@ -2,7 +2,7 @@
 use Rattle.std.specs.Prelude.{◌≡◌, ◌≢◌, ◌==◌, ℕ, List, [], ◌∷◌, ◌++◌, Option, Some, None, IfSome, drop, length, if◌then◌else◌}
 use Rattle.std.specs.List.{flat_map}
 use Rattle.std.specs.Option.{is_none, option_map}
-use Rattle.text_model.specs.Reading.{◌>>=◌, is_nil}
+use Rattle.texts.specs.Reading.{◌>>=◌, is_nil}
 use Rattle.frame_edits.specs.Edits.{edits, Edits as Plain}
 use Rattle.frame_edits.specs.Words.{Named, edit_at}
 use Rattle.frame_edits.specs.declared.framing.Framing.{Framing}
@@ -12,7 +12,7 @@ use Rattle.frame_edits.specs.declared.found.Found.TheVariants.{Step, Size}
 use Rattle.frame_edits.specs.declared.found.Line.{Line}
 use Rattle.frame_edits.specs.declared.found.Line.TheVariants.{Blank, Edit as One, Bad}
 use Rattle.frame_edits.specs.declared.words.Edit.{Edit}
-use Rattle.frame_lists.specs.Lines.{line_words}
+use Rattle.frame_texts.specs.Lines.{line_words}
 
 -- words are these edits, one after the other, where this became of the size before: no edit comes after a crop or a pad
 abbrev pub AreEdits : List Named → Option Framing → List (List ℕ) → Type 0

@@ -2,8 +2,8 @@
 use Rattle.std.specs.Prelude.{ℕ, ◌&&◌, Bool, true, not, nat_lt, List, [], ◌∷◌, Option, Some, None}
 use Rattle.std.specs.List.{list_any}
 use Rattle.image_commands.specs.Changes.{fills, spreads}
-use Rattle.frame_lists.specs.declared.ranges.Range.{Range}
-use Rattle.frame_lists.specs.declared.ranges.Range.TheVariants.{Frames, Times}
+use Rattle.frame_texts.specs.declared.ranges.Range.{Range}
+use Rattle.frame_texts.specs.declared.ranges.Range.TheVariants.{Frames, Times}
 use Rattle.frame_edits.specs.declared.words.Edit.{Edit}
 
 abbrev pub ends_after : ℕ → Option ℕ → Bool

@@ -14,11 +14,11 @@ use Rattle.frame_edits.specs.declared.framing.Framing.{Framing}
 use Rattle.frame_edits.specs.declared.framing.Framing.TheVariants.{Crop, Pad, Turn}
 use Rattle.image_commands.specs.declared.changes.Quarter.{Quarter}
 use Rattle.image_commands.specs.declared.changes.Quarter.TheVariants.{Right, Left}
-use Rattle.text_model.specs.Parts.{parts_of}
-use Rattle.text_model.specs.Reading.{◌>>=◌, number_of, first_of_parts, number_at, window_of, is_nil}
-use Rattle.frame_lists.specs.Ranges.{range_of}
-use Rattle.frame_lists.specs.declared.ranges.Range.{Range}
-use Rattle.frame_lists.specs.declared.ranges.Range.TheVariants.{Frames}
+use Rattle.texts.specs.Parts.{parts_of}
+use Rattle.texts.specs.Reading.{◌>>=◌, number_of, first_of_parts, number_at, window_of, is_nil}
+use Rattle.frame_texts.specs.Ranges.{range_of}
+use Rattle.frame_texts.specs.declared.ranges.Range.{Range}
+use Rattle.frame_texts.specs.declared.ranges.Range.TheVariants.{Frames}
 use Rattle.frame_edits.specs.declared.words.Edit.{Edit}
 use Rattle.frame_edits.specs.declared.words.Scope.TheVariants.{Exact}
 

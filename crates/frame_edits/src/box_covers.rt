@@ -3,13 +3,13 @@
 ghost use Rattle.std.specs.Prelude.{◌≡◌, ◌≤◌, ◌<◌, All, IsPermutation, Some, None, IfOk, IfErr, IsOk, OnOk, length, map};
 ghost use Rattle.std.specs.List.Sorted.{IsNonDecreasingBy, IsStableByKey};
 ghost use Rattle.std.specs.Ordering.{nat_cmp};
-ghost use Rattle.frame_lists.specs.Boxes.{HasBoxes, IsBox, TouchesExactly, each_box, window_of_box};
+ghost use Rattle.frame_texts.specs.Boxes.{HasBoxes, IsBox, TouchesExactly, each_box, window_of_box};
 ghost use Rattle.frame_edits.specs.BoxCovers.{cover_of, first_of, AreCovers};
 
 use crate::covers::with_window;
 use crate::paint::Paint;
 use crate::words::{Edit, Scope};
-use frame_lists::{Range, Tracked, WordsFault, read_tracked, window_of_box};
+use frame_texts::{Range, Tracked, WordsFault, read_tracked, window_of_box};
 use image_commands::{Change, Window};
 use std::alloc::{AllocError, AllocFailed, Global};
 

@@ -5,8 +5,7 @@ ghost use Rattle.frame_edits.specs.Covers.{IsUnit, chroma_unit, video_unit, marg
 
 use crate::paint::Paint;
 use crate::words::{Edit, Scope};
-use frame_heads::{Chroma, Format, Picture, Rate};
-use frame_lists::BEFORE;
+use frame_texts::{BEFORE, Chroma, Format, Picture, Rate};
 use image_commands::{Axes, Change, Window};
 
 /// How many columns and rows of pixels share a sample, of both fields where there are two.

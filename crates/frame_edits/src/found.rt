@@ -3,16 +3,16 @@
 
 ghost use Rattle.std.specs.Prelude.{◌≡◌, ◌<◌, ◌≤◌, map, [], true, false, IfSome, length};
 ghost use Rattle.std.specs.Option.{is_some, option_map};
-ghost use Rattle.text_model.specs.Parts.{parts_of};
+ghost use Rattle.texts.specs.Parts.{parts_of};
 ghost use Rattle.frame_edits.specs.Edits.{edits};
 ghost use Rattle.frame_edits.specs.Lists.{AreEdits, HaveEdits, WordsAre, framing_of, named_of, with_lines};
 ghost use Rattle.frame_edits.specs.Words.{Named, edit_at};
 ghost use Rattle.std.specs.Prelude.{List};
-ghost use Rattle.frame_lists.specs.Lines.{line_words};
+ghost use Rattle.frame_texts.specs.Lines.{line_words};
 
 use crate::framing::Framing;
 use crate::words::{Edit, read_framing, read_ranged};
-use frame_lists::Words;
+use frame_texts::Words;
 use texts::Parts;
 
 /// The edit at the front of words.

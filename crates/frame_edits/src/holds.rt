@@ -3,19 +3,19 @@
 ghost use Rattle.std.specs.Prelude.{◌≡◌, ◌<◌, ◌+◌, ◌∷◌, ◌++◌, length, All, Some, None, IfOk, IfErr, IsOk, OnOk};
 ghost use Rattle.std.specs.List.{slice_get};
 ghost use Rattle.std.specs.Option.{option_to_list};
-ghost use Rattle.frame_lists.specs.Boxes.{HasBoxes, IsBox, each_box};
-ghost use Rattle.frame_lists.specs.Tracks.{missing, goes_on_at, comes_at, around};
+ghost use Rattle.frame_texts.specs.Boxes.{HasBoxes, IsBox, each_box};
+ghost use Rattle.frame_texts.specs.Tracks.{missing, goes_on_at, comes_at, around};
 ghost use Rattle.frame_edits.specs.Holds.{kept, kept_on, filled, between, held_at, held, AreHeld};
 
 use crate::box_covers::{BoxStyle, cover_of, put_in_order};
 use crate::words::Edit;
-use frame_lists::{
+use frame_texts::{
     Range, Tracked, WordsFault, around, comes_at, goes_on_at, missing, put_by_tracks, read_tracked,
 };
 use std::alloc::{AllocFailed, Global};
 
 // The cover of a box that is kept for so many frames before its own and after it.
-#[tactic(auto, using(frame_lists::proofs::BoxSizes::is_box))]
+#[tactic(auto, using(frame_texts::proofs::BoxSizes::is_box))]
 fn kept(style: BoxStyle, before: usize, after: usize, tracked: Tracked) -> Edit
     requires { IsBox 32 tracked }
     ensures { result ≡ kept style before after tracked }

@@ -3,14 +3,14 @@
 ghost use Rattle.std.specs.Prelude.{◌≡◌, ◌≢◌, ◌<◌, ◌≤◌, ◌++◌, map, take as list_take, [], Some, None, IfSome, IfOk, IfErr, OnOk, length};
 ghost use Rattle.std.specs.List.{flat_map};
 ghost use Rattle.std.specs.Option.{option_map};
-ghost use Rattle.text_model.specs.Parts.{parts_of};
+ghost use Rattle.texts.specs.Parts.{parts_of};
 ghost use Rattle.frame_edits.specs.Lists.{Adds, AddsNone, HaveEdits, IsEditLine, NeedsMemory, NeedsPlace, framing_of, named_of, plain, steps_of, with_line, with_lines};
 ghost use Rattle.frame_edits.specs.Words.{edit_at, with_edit};
 
 use crate::found::{Found, Line, are_edits, are_lines, read_edit, read_line};
 use crate::framing::Framing;
 use crate::words::Edit;
-use frame_lists::WordsFault;
+use frame_texts::WordsFault;
 use std::alloc::Global;
 use texts::Parts;
 

@@ -1,13 +1,12 @@
 //! The edit that words name.
 
 ghost use Rattle.std.specs.Prelude.{◌≡◌, ◌+◌, ◌<◌, ◌≤◌, map, IfSome, length};
-ghost use Rattle.text_model.specs.Parts.{parts_of};
-ghost use Rattle.texts.specs.Parts.{parts_left};
+ghost use Rattle.texts.specs.Parts.{parts_of, parts_left};
 ghost use Rattle.frame_edits.specs.Words.{pair_of, radius_of, colour_in, paint_of, axes_of, quarter_of, change_of, way_of, pad_of, framing_at, margin_in, rectangle_of, cover_at, change_at, step_at, ranged_at};
 
 use crate::framing::Framing;
 use crate::paint::Paint;
-use frame_lists::{Range, read_range};
+use frame_texts::{Range, read_range};
 use image_commands::{Axes, Change, Quarter, SampleBytes, Window};
 use texts::{Field, Parts, next};
 

@@ -4,8 +4,8 @@ use Rattle.std.specs.List.{list_any}
 use Rattle.std.specs.Option.{option_map}
 use Rattle.std.proofs.Math.Nat.{div-mul-le_self, mul-le-mul_right}
 use Rattle.std.proofs.lemmas.Nat.{le-div}
-use Rattle.text_model.proofs.Options.{some_is}
-use Rattle.text_model.specs.Reading.{◌>>=◌}
+use Rattle.texts.proofs.Options.{some_is}
+use Rattle.texts.specs.Reading.{◌>>=◌}
 use Rattle.image_planes.specs.Changes.{Job, is_job, job, job_for, names}
 use Rattle.image_commands.specs.Changes.{fills, spreads}
 use Rattle.image_planes.specs.Filled.{FillFirst, PlanesUnfilled, any_fills, fills_first}
@@ -24,18 +24,18 @@ use Rattle.frame_edits.specs.declared.paint.Paint.TheVariants.{Grey, Black, Colo
 use Rattle.frame_edits.specs.declared.words.Edit.{Edit}
 use Rattle.frame_edits.specs.declared.words.Scope.{Scope}
 use Rattle.frame_edits.specs.declared.words.Scope.TheVariants.{Exact, Boxed}
-use Rattle.frame_heads.specs.Format.{format_of, is_upright}
-use Rattle.frame_heads.specs.Heads.{head_text}
-use Rattle.frame_heads.specs.Line.{resized}
-use Rattle.frame_heads.specs.Pixels.{pixel_size}
-use Rattle.frame_heads.specs.Rates.{rate_of}
-use Rattle.frame_heads.specs.declared.header.Format.{Format}
-use Rattle.frame_heads.specs.declared.picture.Picture.{Picture}
-use Rattle.frame_heads.specs.declared.pixel.Pixel.{Pixel}
-use Rattle.frame_heads.specs.declared.rate.Rate.{Rate}
-use Rattle.frame_lists.specs.Ranges.{end_at, frame_at, frames_in}
-use Rattle.frame_lists.specs.declared.ranges.Range.{Range}
-use Rattle.frame_lists.specs.declared.ranges.Range.TheVariants.{Frames, Times}
+use Rattle.frame_texts.specs.Format.{format_of, is_upright}
+use Rattle.frame_texts.specs.Heads.{head_text}
+use Rattle.frame_texts.specs.VideoLine.{resized}
+use Rattle.frame_texts.specs.Pixels.{pixel_size}
+use Rattle.frame_texts.specs.Rates.{rate_of}
+use Rattle.frame_texts.specs.declared.header.Format.{Format}
+use Rattle.frame_texts.specs.declared.picture.Picture.{Picture}
+use Rattle.frame_texts.specs.declared.pixel.Pixel.{Pixel}
+use Rattle.frame_texts.specs.declared.rate.Rate.{Rate}
+use Rattle.frame_texts.specs.Ranges.{end_at, frame_at, frames_in}
+use Rattle.frame_texts.specs.declared.ranges.Range.{Range}
+use Rattle.frame_texts.specs.declared.ranges.Range.TheVariants.{Frames, Times}
 use Rattle.frame_formats.specs.Framings.{resize_for}
 use Rattle.frame_formats.specs.Layers.{across_of, change_on, down_of, job_on, jobs_on, layer_height, layer_width, picture_layers, picture_pixel, resizings_on, value_on, video_layers, window_on}
 use Rattle.frame_formats.specs.Recipe.{PicturesHideFilled, Recipe, VideosHideFilled, finished_picture, finished_video, recipe, resized_picture}

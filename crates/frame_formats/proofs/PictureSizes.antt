@@ -1,16 +1,16 @@
 -- The plane of a picture has its size.
 use Rattle.std.proofs.Common.{◌≡◌, ℕ, ◌*◌, ◌<◌, ◌^◌, true, List, [], ◌∷◌, Some, arith, subst, sym}
 use Rattle.std.proofs.Math.Nat.{le-mul_of_pos_right, mul_comm}
-use Rattle.text_model.proofs.Options.{some_is, bind_some}
+use Rattle.texts.proofs.Options.{some_is, bind_some}
 use Rattle.image_planes.specs.Changes.{Job, is_job}
 use Rattle.image_planes.specs.Resized.{Resizing, is_resizing}
 use Rattle.image_planes.specs.declared.change.Step.{Step}
 use Rattle.image_planes.specs.declared.target.Resize.{Resize}
 use Rattle.frame_formats.specs.Layers.{picture_layers, jobs_on, resizing_on, resizings_on}
 use Rattle.frame_formats.specs.Steps.{all_some}
-use Rattle.frame_heads.specs.Pixels.{pixel_size}
+use Rattle.frame_texts.specs.Pixels.{pixel_size}
 use Rattle.frame_formats.specs.declared.layers.Layer.TheVariants.{Pixels}
-use Rattle.frame_heads.specs.declared.pixel.Pixel.{Pixel}
+use Rattle.frame_texts.specs.declared.pixel.Pixel.{Pixel}
 use Rattle.frame_edits.specs.declared.paint.Paint.{Paint}
 use Rattle.frame_formats.proofs.Sizes.{job_size, target_size}
 

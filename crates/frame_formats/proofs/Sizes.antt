@@ -1,15 +1,15 @@
 -- How many bytes the planes have, before and after.
 use Rattle.std.proofs.Common.{◌≡◌, ℕ, ◌+◌, ◌*◌, true, List, [], ◌∷◌, Some, sym, ap, ◌∙◌, arith}
-use Rattle.text_model.specs.Reading.{◌>>=◌}
-use Rattle.text_model.proofs.Options.{some_is, bind_some, guard_some}
+use Rattle.texts.specs.Reading.{◌>>=◌}
+use Rattle.texts.proofs.Options.{some_is, bind_some, guard_some}
 use Rattle.image_planes.specs.Changes.{Job, job_len, is_job, jobs_len}
 use Rattle.image_planes.specs.Resized.{Resizing, resizing, is_resizing, resizing_for, source_len, sources_len}
 use Rattle.image_planes.specs.declared.change.Step.{Step}
 use Rattle.image_planes.specs.declared.target.Resize.{Resize}
 use Rattle.frame_formats.specs.Layers.{layer_width, layer_height, job_on, jobs_on, resize_on, resizing_on, resizings_on}
 use Rattle.frame_formats.specs.Steps.{all_some}
-use Rattle.frame_heads.specs.Pixels.{pixel_size}
-use Rattle.frame_heads.specs.declared.pixel.Pixel.{Pixel}
+use Rattle.frame_texts.specs.Pixels.{pixel_size}
+use Rattle.frame_texts.specs.declared.pixel.Pixel.{Pixel}
 use Rattle.frame_formats.specs.declared.layers.Layer.{Layer}
 use Rattle.frame_edits.specs.declared.paint.Paint.{Paint}
 

@@ -2,13 +2,13 @@
 use Rattle.std.proofs.Common.{◌≡◌, ◌<◌, ℕ, zero, suc, List, [], ◌∷◌, Some, None, length, get_or, arith, refl}
 use Rattle.image_planes.specs.Changes.{Job, job_for}
 use Rattle.image_planes.specs.declared.change.Step.{Step}
-use Rattle.text_model.specs.Reading.{◌>>=◌}
+use Rattle.texts.specs.Reading.{◌>>=◌}
 use Rattle.frame_formats.specs.Layers.{StartsOn, change_on, job_on, layer_height, layer_width}
 use Rattle.frame_formats.specs.Steps.{StartsWell, all_some, step_by}
-use Rattle.frame_heads.specs.Pixels.{pixel_size}
+use Rattle.frame_texts.specs.Pixels.{pixel_size}
 use Rattle.frame_formats.specs.declared.layers.Layer.{Layer}
 use Rattle.frame_edits.specs.declared.paint.Paint.{Paint}
-use Rattle.frame_heads.specs.declared.pixel.Pixel.{Pixel}
+use Rattle.frame_texts.specs.declared.pixel.Pixel.{Pixel}
 use Rattle.frame_formats.proofs.StepsEach.{starts_made}
 
 -- this plane is the first, or comes after it

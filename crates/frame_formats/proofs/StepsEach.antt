@@ -2,7 +2,7 @@
 use Rattle.std.proofs.Common.{◌≡◌, ◌≢◌, ℕ, zero, suc, arith, ◌+◌, ◌<◌, ◌≤◌, List, [], ◌∷◌, ◌++◌, Option, Some, None, Result, Ok, Err, IfErr, length, drop, get_or, refl, sym, ap, subst, ◌∙◌, append_assoc}
 use Rattle.std.specs.Option.{option_map}
 use Rattle.std.proofs.lemmas.List.{append-nil, at_drop_more, at_drop_all}
-use Rattle.text_model.specs.Reading.{◌>>=◌}
+use Rattle.texts.specs.Reading.{◌>>=◌}
 use Rattle.image_commands.specs.declared.changes.Change.{Change}
 use Rattle.image_planes.specs.declared.change.Step.{Step}
 use Rattle.frame_edits.specs.Covers.{frames_for, settled_by}
@@ -12,7 +12,7 @@ use Rattle.frame_formats.specs.Steps.{StartsWell, all_some, first_made, step_by}
 use Rattle.frame_edits.specs.declared.covers.Unit.{Unit}
 use Rattle.frame_formats.specs.declared.plans.PlanFault.{PlanFault}
 use Rattle.frame_formats.specs.declared.plans.PlanFault.TheVariants.{Outside, Memory}
-use Rattle.frame_heads.specs.declared.rate.Rate.{Rate}
+use Rattle.frame_texts.specs.declared.rate.Rate.{Rate}
 use Rattle.frame_edits.specs.declared.paint.Paint.{Paint}
 use Rattle.frame_edits.specs.declared.words.Edit.{Edit}
 

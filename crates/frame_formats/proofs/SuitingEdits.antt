@@ -3,21 +3,21 @@ use Rattle.std.proofs.Common.{◌≡◌, ℕ, ◌&&◌, ◌==◌, Bool, true, fa
 use Rattle.std.specs.List.{list_all}
 use Rattle.std.proofs.lemmas.Bool.Decides.{nat_tests}
 use Rattle.std.specs.Option.{is_some, option_map}
-use Rattle.text_model.proofs.Options.{bind_some, map_some, some_is, guard_some}
-use Rattle.text_model.specs.Reading.{◌>>=◌}
+use Rattle.texts.proofs.Options.{bind_some, map_some, some_is, guard_some}
+use Rattle.texts.specs.Reading.{◌>>=◌}
 use Rattle.image_planes.specs.Changes.{Job, are_inside, is_change_of, job_for}
 use Rattle.image_planes.specs.Resized.{Resizing, new_height, new_width}
 use Rattle.image_commands.specs.declared.changes.Change.{Change}
 use Rattle.image_planes.specs.declared.change.Step.{Step}
 use Rattle.image_planes.specs.declared.target.Resize.{Resize}
-use Rattle.frame_heads.specs.Format.{format_of, is_upright}
-use Rattle.frame_heads.specs.Heads.{head_text}
-use Rattle.frame_heads.specs.Line.{resized}
-use Rattle.frame_heads.specs.Pixels.{pixel_size}
-use Rattle.frame_heads.specs.Rates.{rate_of}
-use Rattle.frame_heads.specs.declared.header.Format.{Format}
-use Rattle.frame_heads.specs.declared.picture.Picture.{Picture}
-use Rattle.frame_heads.specs.declared.pixel.Pixel.{Pixel}
+use Rattle.frame_texts.specs.Format.{format_of, is_upright}
+use Rattle.frame_texts.specs.Heads.{head_text}
+use Rattle.frame_texts.specs.VideoLine.{resized}
+use Rattle.frame_texts.specs.Pixels.{pixel_size}
+use Rattle.frame_texts.specs.Rates.{rate_of}
+use Rattle.frame_texts.specs.declared.header.Format.{Format}
+use Rattle.frame_texts.specs.declared.picture.Picture.{Picture}
+use Rattle.frame_texts.specs.declared.pixel.Pixel.{Pixel}
 use Rattle.frame_edits.specs.Covers.{one_pixel, video_unit}
 use Rattle.frame_edits.specs.Edits.{Edits}
 use Rattle.frame_edits.specs.declared.framing.Framing.{Framing}

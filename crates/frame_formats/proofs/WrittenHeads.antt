@@ -3,20 +3,20 @@ use Rattle.std.proofs.Common.{◌≡◌, ℕ, ◌*◌, ◌<◌, ◌^◌, Bool, t
 use Rattle.std.specs.Option.{option_map}
 use Rattle.std.proofs.lemmas.Bool.Decides.{eqb_tells}
 use Rattle.std.proofs.Math.Nat.{le-mul_of_pos_right, mul_comm}
-use Rattle.text_model.proofs.Options.{bind_some, map_some}
+use Rattle.texts.proofs.Options.{bind_some, map_some}
 use Rattle.image_planes.specs.Changes.{Job}
 use Rattle.image_planes.specs.Resized.{Resizing, is_resizing, new_width, new_height}
 use Rattle.image_planes.specs.declared.target.Resize.{Resize}
 use Rattle.image_planes.specs.declared.target.Resize.TheVariants.{Crop, Pad, Turn}
 use Rattle.frame_formats.specs.Framings.{resize_for}
 use Rattle.frame_formats.specs.Layers.{picture_pixel, picture_layers, resizings_on}
-use Rattle.frame_heads.specs.Pixels.{pixel_size}
-use Rattle.frame_heads.specs.Heads.{head_text, ReadsBack}
-use Rattle.frame_heads.specs.Picture.{picture_of, is_greatest}
+use Rattle.frame_texts.specs.Pixels.{pixel_size}
+use Rattle.frame_texts.specs.Heads.{head_text, ReadsBack}
+use Rattle.frame_texts.specs.Picture.{picture_of, is_greatest}
 use Rattle.frame_formats.specs.Recipe.{HeadsAreRead, Recipe, recipe, finished_picture, resized_picture}
 use Rattle.frame_formats.proofs.PictureSizes.{picture_size, picture_resized}
 use Rattle.frame_edits.specs.declared.framing.Framing.{Framing}
-use Rattle.frame_heads.specs.declared.picture.Picture.{Picture}
+use Rattle.frame_texts.specs.declared.picture.Picture.{Picture}
 
 -- numbers for which the test holds are one
 same_number : (a b : ℕ) → eqb a b ≡ true → a ≡ b

@@ -1,10 +1,10 @@
 -- The change of the size of frames, as that of each plane.
 use Rattle.std.specs.Prelude.{ℕ, ◌+◌, ◌==◌, ◌^◌, Bool, nat_lt, if◌then◌else◌, Option, Some, None}
-use Rattle.text_model.specs.Reading.{◌>>=◌}
+use Rattle.texts.specs.Reading.{◌>>=◌}
 use Rattle.image_planes.specs.declared.target.Resize.{Resize}
 use Rattle.image_planes.specs.declared.target.Resize.TheVariants.{Crop, Pad, Turn}
 use Rattle.frame_formats.specs.Steps.{grey_of, no_colour}
-use Rattle.frame_heads.specs.declared.pixel.Pixel.{Pixel}
+use Rattle.frame_texts.specs.declared.pixel.Pixel.{Pixel}
 use Rattle.frame_edits.specs.declared.framing.Framing.{Framing}
 use Rattle.frame_edits.specs.declared.framing.Framing.TheVariants.{Crop as CropPixels, Pad as PadPixels, Turn as TurnPixels}
 use Rattle.frame_formats.specs.Sampling.{samples, window_under}

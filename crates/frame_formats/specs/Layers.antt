@@ -8,22 +8,22 @@ use Rattle.image_commands.specs.declared.changes.Change.TheVariants.{Fill, Mosai
 use Rattle.image_planes.specs.declared.change.Step.{Step}
 use Rattle.image_planes.specs.declared.target.Resize.{Resize}
 use Rattle.image_planes.specs.declared.target.Resize.TheVariants.{Crop, Pad, Turn}
-use Rattle.text_model.specs.Reading.{◌>>=◌}
+use Rattle.texts.specs.Reading.{◌>>=◌}
 use Rattle.frame_formats.specs.Sampling.{at_corner, exact_samples, samples, window_under}
 use Rattle.frame_formats.specs.Framings.{resize_under}
 use Rattle.frame_formats.specs.Steps.{StartsWell, all_some, bytes_of, no_colour, opaque, step_by, value_in}
-use Rattle.frame_heads.specs.Pixels.{pixel_size}
-use Rattle.frame_heads.specs.Format.{sampling}
-use Rattle.frame_heads.specs.declared.header.Chroma.{Chroma}
-use Rattle.frame_heads.specs.declared.header.Chroma.TheVariants.{Mono, Small, Wide, Quarter, Whole, WholeAlpha}
-use Rattle.frame_heads.specs.Pam.{tuple}
-use Rattle.frame_heads.specs.declared.pam.Tuples.{Tuples}
-use Rattle.frame_heads.specs.declared.picture.Kind.{Kind}
-use Rattle.frame_heads.specs.declared.picture.Kind.TheVariants.{Plain, Pam}
-use Rattle.frame_heads.specs.declared.picture.Picture.{Picture}
+use Rattle.frame_texts.specs.Pixels.{pixel_size}
+use Rattle.frame_texts.specs.Format.{sampling}
+use Rattle.frame_texts.specs.declared.header.Chroma.{Chroma}
+use Rattle.frame_texts.specs.declared.header.Chroma.TheVariants.{Mono, Small, Wide, Quarter, Whole, WholeAlpha}
+use Rattle.frame_texts.specs.Pam.{tuple}
+use Rattle.frame_texts.specs.declared.pam.Tuples.{Tuples}
+use Rattle.frame_texts.specs.declared.picture.Kind.{Kind}
+use Rattle.frame_texts.specs.declared.picture.Kind.TheVariants.{Plain, Pam}
+use Rattle.frame_texts.specs.declared.picture.Picture.{Picture}
 use Rattle.frame_formats.specs.declared.layers.Layer.{Layer}
 use Rattle.frame_formats.specs.declared.layers.Layer.TheVariants.{Pixels, Samples, Alpha}
-use Rattle.frame_heads.specs.declared.pixel.Pixel.{Pixel}
+use Rattle.frame_texts.specs.declared.pixel.Pixel.{Pixel}
 use Rattle.frame_edits.specs.declared.paint.Paint.{Paint}
 
 abbrev pub kind_tuple : Kind → Tuples

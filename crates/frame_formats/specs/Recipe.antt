@@ -9,22 +9,22 @@ use Rattle.image_planes.specs.Filled.{PlanesUnfilled}
 use Rattle.image_planes.specs.Scratch.{scratch_len}
 use Rattle.image_planes.specs.Unseen.{PlanesAlike}
 use Rattle.image_planes.specs.declared.target.Target.{Target}
-use Rattle.frame_heads.specs.Format.{format_of, is_upright}
+use Rattle.frame_texts.specs.Format.{format_of, is_upright}
 use Rattle.frame_formats.specs.Framings.{resize_for}
 use Rattle.frame_formats.specs.Layers.{picture_pixel, picture_layers, video_layers, jobs_on, resizings_on}
 use Rattle.frame_edits.specs.Covers.{video_unit, one_pixel}
 use Rattle.frame_formats.specs.Steps.{step_in}
-use Rattle.frame_heads.specs.Line.{resized}
-use Rattle.frame_heads.specs.Rates.{rate_of}
+use Rattle.frame_texts.specs.VideoLine.{resized}
+use Rattle.frame_texts.specs.Rates.{rate_of}
 use Rattle.frame_formats.specs.Steps.{all_some}
-use Rattle.frame_heads.specs.Heads.{head_text}
-use Rattle.frame_heads.specs.Picture.{picture, picture_of, is_greatest}
+use Rattle.frame_texts.specs.Heads.{head_text}
+use Rattle.frame_texts.specs.Picture.{picture, picture_of, is_greatest}
 use Rattle.frame_edits.specs.Edits.{Edits}
 use Rattle.frame_edits.specs.Order.{covers_first}
-use Rattle.text_model.specs.Reading.{◌>>=◌}
+use Rattle.texts.specs.Reading.{◌>>=◌}
 use Rattle.frame_edits.specs.declared.framing.Framing.{Framing}
-use Rattle.frame_heads.specs.declared.header.Format.{Format}
-use Rattle.frame_heads.specs.declared.picture.Picture.{Picture}
+use Rattle.frame_texts.specs.declared.header.Format.{Format}
+use Rattle.frame_texts.specs.declared.picture.Picture.{Picture}
 
 -- what is written before the first frame, how many bytes a frame has, and how many in its other size, what is done to each of its planes, and what the bytes of a frame become, by its number from 0
 pub record Recipe : Type 0 where

@@ -2,15 +2,15 @@
 use Rattle.std.specs.Prelude.{◌≢◌, ◌<◌, ℕ, length, ◌+◌, ◌/◌, ◌%◌, ◌&&◌, nat_lt, nat_le, if◌then◌else◌, List, [], ◌∷◌, ◌++◌, Option, Some, None, take, replicate}
 use Rattle.std.specs.List.{flat_map}
 use Rattle.std.specs.Option.{option_map}
-use Rattle.text_model.specs.Reading.{◌>>=◌}
+use Rattle.texts.specs.Reading.{◌>>=◌}
 use Rattle.image_shape.specs.declared.samples.SampleBytes.{SampleBytes}
 use Rattle.image_shape.specs.declared.samples.SampleBytes.TheVariants.{One, LowFirst, HighFirst}
 use Rattle.image_commands.specs.declared.changes.Change.{Change}
 use Rattle.image_planes.specs.declared.change.Step.{Step}
-use Rattle.frame_heads.specs.declared.pixel.Pixel.{Pixel}
+use Rattle.frame_texts.specs.declared.pixel.Pixel.{Pixel}
 use Rattle.frame_edits.specs.declared.paint.Paint.{Paint}
 use Rattle.frame_edits.specs.declared.paint.Paint.TheVariants.{Grey, Black, Colour, Around}
-use Rattle.frame_heads.specs.declared.rate.Rate.{Rate}
+use Rattle.frame_texts.specs.declared.rate.Rate.{Rate}
 use Rattle.frame_edits.specs.declared.words.Edit.{Edit}
 use Rattle.frame_edits.specs.declared.covers.Unit.{Unit as Samples}
 use Rattle.frame_edits.specs.Covers.{settled_by, frames_for}

@@ -7,12 +7,12 @@ use Rattle.image_planes.specs.Resized.{new_height}
 use Rattle.image_commands.specs.declared.changes.Change.{Change}
 use Rattle.image_planes.specs.declared.change.Step.{Step}
 use Rattle.image_planes.specs.declared.target.Resize.{Resize}
-use Rattle.frame_heads.specs.Format.{is_upright}
-use Rattle.frame_heads.specs.Rates.{rate_of}
-use Rattle.frame_heads.specs.declared.header.Format.{Format}
-use Rattle.frame_heads.specs.declared.picture.Picture.{Picture}
-use Rattle.frame_heads.specs.declared.pixel.Pixel.{Pixel}
-use Rattle.frame_heads.specs.declared.rate.Rate.{Rate}
+use Rattle.frame_texts.specs.Format.{is_upright}
+use Rattle.frame_texts.specs.Rates.{rate_of}
+use Rattle.frame_texts.specs.declared.header.Format.{Format}
+use Rattle.frame_texts.specs.declared.picture.Picture.{Picture}
+use Rattle.frame_texts.specs.declared.pixel.Pixel.{Pixel}
+use Rattle.frame_texts.specs.declared.rate.Rate.{Rate}
 use Rattle.frame_edits.specs.Covers.{one_pixel, video_unit}
 use Rattle.frame_edits.specs.Edits.{Edits}
 use Rattle.frame_edits.specs.declared.covers.Unit.{Unit as Samples}

@@ -5,7 +5,7 @@ ghost use Rattle.frame_formats.specs.Framings.{padded_size, resize_for};
 
 use crate::steps::grey_of;
 use frame_edits::Framing;
-use frame_heads::Pixel;
+use frame_texts::Pixel;
 use image_planes::Resize;
 
 // How many pixels there are with those before and after.

@@ -2,7 +2,7 @@
 
 ghost use Rattle.frame_formats.specs.Recipe.{HeadsAreRead, PicturesHide, PicturesHideFilled, VideosHide, VideosHideFilled};
 
-use frame_heads::heads_end_themselves;
+use frame_texts::heads_end_themselves;
 use image_planes::changes_hide;
 
 /// The output reveals nothing of what the edits of a video or a picture hide: frames that differ

@@ -13,7 +13,7 @@ use crate::plans::PlanFault;
 use crate::samples::{count_samples, resize_of_samples, whole_samples, window_of_samples};
 use crate::steps::{bytes_of, no_colour, opaque, value_in};
 use frame_edits::Paint;
-use frame_heads::{Chroma, Kind, Picture, Pixel, Tuples};
+use frame_texts::{Chroma, Kind, Picture, Pixel, Tuples};
 use image_planes::{Change, Plane, Resize, Step, Target, Value, Window};
 use std::alloc::Global;
 

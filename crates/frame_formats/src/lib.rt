@@ -12,8 +12,7 @@ mod steps;
 mod suits;
 
 pub use frame_edits::Edits;
-pub use frame_heads::{Kind, Picture, read_format};
-pub use frame_lists::WordsFault;
+pub use frame_texts::{Kind, Picture, WordsFault, read_format};
 pub use hiding::recipes_hide;
 pub use plans::{Plan, PlanFault};
 pub use suits::{unsuited_in_picture, unsuited_in_video};

@@ -4,13 +4,13 @@ ghost use Rattle.std.specs.Prelude.{◌≡◌, ◌≤◌, ◌⊎◌, ◌^◌, tr
 ghost use Rattle.image_planes.specs.Changes.{as_usize, jobs_len};
 ghost use Rattle.image_planes.specs.Planes.{job_of};
 ghost use Rattle.image_planes.specs.Scratch.{scratch_len, room_len, HasRoom, KeepsRoom};
-ghost use Rattle.frame_heads.specs.Format.{format_of};
+ghost use Rattle.frame_texts.specs.Format.{format_of};
 ghost use Rattle.frame_formats.specs.Plan.{Tells};
 ghost use Rattle.frame_edits.specs.Covers.{one_pixel, video_unit};
 ghost use Rattle.frame_formats.specs.Steps.{step_in, StartsWell};
 ghost use Rattle.frame_formats.specs.Suits.{suit_picture, suit_video};
 ghost use Rattle.frame_edits.specs.Edits.{edits};
-ghost use Rattle.frame_heads.specs.Rates.{rate_of};
+ghost use Rattle.frame_texts.specs.Rates.{rate_of};
 ghost use Rattle.frame_formats.specs.Recipe.{recipe, video_recipe, picture_recipe, new_len, resized_len, resizings_of};
 
 use crate::framing::resize_of;
@@ -18,7 +18,7 @@ use crate::layers::{picture_layers, picture_pixel, planes_of, targets_of, video_
 use crate::settling::{settle_all, unit_of_picture};
 use crate::suits::{unsuited_in_picture, unsuited_in_video};
 use frame_edits::{Edit, Framing, unit_of_video};
-use frame_heads::{Format, Picture, ended_line, picture_head, read_rate, resized_line};
+use frame_texts::{Format, Picture, ended_line, picture_head, read_rate, resized_line};
 use image_planes::{
     Plane, Scratch, Target, change_planes, planes_len, resize_planes, scratch_len, targets_len,
 };

@@ -5,7 +5,7 @@ ghost use Rattle.frame_formats.specs.Sampling.{samples, ends_on_sample, window_u
 ghost use Rattle.frame_formats.specs.Framings.{resize_under};
 
 use crate::steps::no_colour;
-use frame_heads::Pixel;
+use frame_texts::Pixel;
 use image_planes::{Resize, Window};
 
 /// The number of samples for so many pixels, where it is a whole one.

@@ -7,7 +7,7 @@ ghost use Rattle.frame_formats.specs.Steps.{all_some, first_made, step_in};
 
 use crate::plans::PlanFault;
 use frame_edits::{Edit, Paint, Unit, frames_of, settle_edit};
-use frame_heads::Rate;
+use frame_texts::Rate;
 use image_planes::Step;
 use std::alloc::Global;
 

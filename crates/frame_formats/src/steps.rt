@@ -4,7 +4,7 @@ ghost use Rattle.std.specs.Prelude.{◌≡◌, ◌∷◌, ◌<◌, ◌%◌, ◌/
 ghost use Rattle.frame_formats.specs.Steps.{bytes_of, pixel_bytes, black, grey_of, colour_of, no_colour, opaque, value_in};
 
 use frame_edits::Paint;
-use frame_heads::Pixel;
+use frame_texts::Pixel;
 use image_planes::{SampleBytes, Value};
 
 // The low byte of a number, and the high one.

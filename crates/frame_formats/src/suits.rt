@@ -13,7 +13,7 @@ use crate::layers::{
 };
 use crate::settling::{step_of, unit_of_picture};
 use frame_edits::{Edit, Framing, Unit, Unsuited, unit_of_video};
-use frame_heads::{Format, Picture, Pixel, Rate};
+use frame_texts::{Format, Picture, Pixel, Rate};
 use image_planes::is_inside;
 
 // A frame: its unit and its rate, what its pixels and its planes are, and its size.

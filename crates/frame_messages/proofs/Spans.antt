@@ -3,7 +3,7 @@ use Rattle.std.proofs.Common.{◌≡◌, ◌<◌, ◌≤◌, ◌+◌, ℕ, Bool,
 use Rattle.std.proofs.lemmas.List.{at_drop_all, at_drop_more}
 use Rattle.image_shape.specs.declared.window.Window.{Window}
 use Rattle.frame_edits.specs.declared.words.Edit.{Edit}
-use Rattle.frame_heads.specs.declared.rate.Rate.{Rate}
+use Rattle.frame_texts.specs.declared.rate.Rate.{Rate}
 use Rattle.frame_messages.specs.Report.{comes_after, cons_some, moved, moved_by, span_if, spans_from}
 use Rattle.frame_messages.specs.declared.report.Span.{Span}
 

@@ -3,8 +3,8 @@ use Rattle.std.proofs.Common.{◌≡◌, ◌≤◌, ◌<◌, ◌+◌, ◌-◌, �
 use Rattle.std.specs.List.{list_any}
 use Rattle.std.specs.Option.{is_some}
 use Rattle.std.proofs.lemmas.Bool.{and_parts, ltb-true}
-use Rattle.text_model.specs.Reading.{◌>>=◌}
-use Rattle.text_model.proofs.Options.{some_is}
+use Rattle.texts.specs.Reading.{◌>>=◌}
+use Rattle.texts.proofs.Options.{some_is}
 use Rattle.frame_edits.specs.declared.words.Edit.{Edit}
 use Rattle.frame_messages.specs.Bare.{AreBare, AreCounted, AreInOrder, bare_count, is_bare}
 use Rattle.frame_messages.specs.Ending.{is_any_bare, status_after}

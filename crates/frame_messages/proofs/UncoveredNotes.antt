@@ -3,7 +3,7 @@ use Rattle.std.proofs.Common.{◌≡◌, ◌<◌, ◌≤◌, ◌+◌, ℕ, true,
 use Rattle.std.specs.List.{slice_get}
 use Rattle.std.proofs.lemmas.Bool.{cases_lt}
 use Rattle.std.proofs.lemmas.Option.{slice_get_within}
-use Rattle.text_model.proofs.Options.{some_is}
+use Rattle.texts.proofs.Options.{some_is}
 use Rattle.frame_edits.specs.declared.words.Edit.{Edit}
 use Rattle.frame_requests.specs.Seen.{IsAnyUncovered, IsOtherTold, NoneUncovered, is_told}
 use Rattle.frame_requests.specs.declared.seen.Seen.{Seen}

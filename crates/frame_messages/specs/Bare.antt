@@ -2,8 +2,8 @@
 use Rattle.std.specs.Prelude.{◌≡◌, ◌≤◌, ◌<◌, ◌+◌, ◌-◌, ◌&&◌, ℕ, zero, suc, Bool, true, false, not, nat_lt, nat_le, min, if◌then◌else◌, List, [], ◌∷◌, ◌++◌, Option, Some, None, codes}
 use Rattle.std.specs.Fmt.{decimal}
 use Rattle.std.specs.List.{list_any}
-use Rattle.frame_lists.specs.declared.ranges.Range.{Range}
-use Rattle.frame_lists.specs.declared.ranges.Range.TheVariants.{Frames, Times}
+use Rattle.frame_texts.specs.declared.ranges.Range.{Range}
+use Rattle.frame_texts.specs.declared.ranges.Range.TheVariants.{Frames, Times}
 use Rattle.frame_edits.specs.declared.words.Edit.{Edit}
 use Rattle.frame_edits.specs.declared.words.Scope.{Scope}
 use Rattle.frame_edits.specs.declared.words.Scope.TheVariants.{Exact, Boxed}

@@ -2,7 +2,7 @@
 use Rattle.std.specs.Prelude.{◌≡◌, ℕ, ◌&&◌, Bool, true, false, not, nat_lt, if◌then◌else◌, List, [], Option, Some, None, Result, Ok, Err}
 use Rattle.std.specs.Option.{is_some, option_map}
 use Rattle.frame_edits.specs.declared.words.Edit.{Edit}
-use Rattle.frame_lists.specs.Counts.{agrees, says_none_else}
+use Rattle.frame_texts.specs.Counts.{agrees, says_none_else}
 use Rattle.frame_messages.specs.Bare.{bare_count, bare_text, is_bare}
 use Rattle.frame_requests.specs.Fault.{status_of}
 use Rattle.frame_messages.specs.Lines.{text_or_none}

@@ -14,8 +14,8 @@ use Rattle.frame_edits.specs.declared.paint.Paint.TheVariants.{Grey, Black, Colo
 use Rattle.frame_edits.specs.declared.words.Edit.{Edit}
 use Rattle.frame_edits.specs.declared.words.Scope.{Scope}
 use Rattle.frame_edits.specs.declared.words.Scope.TheVariants.{Exact, Boxed}
-use Rattle.frame_heads.specs.declared.rate.Rate.{Rate}
-use Rattle.frame_lists.specs.Ranges.{frames_in}
+use Rattle.frame_texts.specs.declared.rate.Rate.{Rate}
+use Rattle.frame_texts.specs.Ranges.{frames_in}
 use Rattle.frame_messages.specs.Placed.{flipped_in, framed_in}
 use Rattle.frame_messages.specs.declared.report.Span.{Span}
 use Rattle.frame_requests.specs.Seen.{shape_at}

@@ -1,8 +1,8 @@
 -- Ranges of frames that an input doesn't reach.
 use Rattle.std.specs.Prelude.{ℕ, ◌||◌, ◌&&◌, ◌==◌, Bool, nat_lt, if◌then◌else◌, Option, Some, None}
 use Rattle.std.specs.Option.{is_some}
-use Rattle.frame_lists.specs.Ranges.{frames_in}
-use Rattle.frame_heads.specs.declared.rate.Rate.{Rate}
+use Rattle.frame_texts.specs.Ranges.{frames_in}
+use Rattle.frame_texts.specs.declared.rate.Rate.{Rate}
 use Rattle.frame_edits.specs.declared.words.Edit.{Edit}
 
 -- frames, where an input of so many ends before the first of them; all frames are those that there are

@@ -1,7 +1,7 @@
 //! Why a line is no box, in words for standard error. Nothing here changes what is written or the
 //! status.
 
-use frame_lists::{Tracked, are_boxes, box_text, read_box, read_decimal, read_frame};
+use frame_texts::{Tracked, are_boxes, box_text, read_box, read_decimal, read_frame};
 use std::str;
 use texts::Parts;
 

@@ -2,13 +2,13 @@
 //! status.
 
 ghost use Rattle.std.specs.Prelude.{◌≡◌, ◌-◌};
-ghost use Rattle.text_model.specs.Parts.{parts_of};
+ghost use Rattle.texts.specs.Parts.{parts_of};
 ghost use Rattle.frame_messages.specs.Lines.{line_of};
 
 use crate::beginnings::shown;
 use crate::lines::{Lines, find_bad_word};
 use frame_edits::Edits;
-use frame_lists::line_words;
+use frame_texts::line_words;
 use std::alloc::Global;
 use texts::Parts;
 

@@ -1,7 +1,7 @@
 //! Why an input begins with no supported video and no header of a picture, in words for standard
 //! error. Nothing here changes what is written or the status.
 
-use frame_heads::{Fields, Head, Key, Lines, Place, Scan, read_size};
+use frame_texts::{Fields, Head, Key, Lines, Place, Scan, read_size};
 use std::str;
 use texts::Parts;
 

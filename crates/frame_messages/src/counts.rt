@@ -1,11 +1,11 @@
 //! How many frames the input has to have: as an option asks, and as the lists of edits say.
 
 ghost use Rattle.std.specs.Prelude.{◌≡◌, ◌&&◌};
-ghost use Rattle.frame_lists.specs.Counts.{agrees, says_none_else};
+ghost use Rattle.frame_texts.specs.Counts.{agrees, says_none_else};
 ghost use Rattle.frame_messages.specs.Ending.{is_other};
 
 use crate::places::Texts;
-use frame_lists::{agrees, read_count, says_none_else};
+use frame_texts::{agrees, read_count, says_none_else};
 use std::io;
 use std::io::Write;
 use texts::Parts;

@@ -3,7 +3,7 @@
 
 use crate::lines::Lines;
 use frame_edits::{BoxStyle, first_frame, held_at};
-use frame_lists::{box_text, put_by_tracks, read_box, read_tracked, track_of};
+use frame_texts::{box_text, put_by_tracks, read_box, read_tracked, track_of};
 use std::alloc::{AllocError, Global};
 use std::fmt;
 use texts::Parts;

@@ -8,8 +8,8 @@ use crate::beginnings::shown;
 use crate::places::{Texts, say_place};
 use crate::ranges::say_no_frames;
 use frame_edits::{Edit, Edits, Framing, Paint, Scope, Unsuited, turns_over};
-use frame_heads::{Format, Kind, Picture};
 use frame_requests::{Misread, Refusal, RunFault, Seen, Shape};
+use frame_texts::{Format, Kind, Picture};
 use image_commands::{Change, Window};
 
 // A frame: its size, how many columns and rows of pixels share a chroma sample, and the greatest

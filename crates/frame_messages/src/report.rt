@@ -12,9 +12,8 @@ ghost use Rattle.frame_messages.specs.Bare.{AreCounted, AreInOrder, bare_count, 
 
 use crate::placed::{flipped, framed};
 use frame_edits::{Edit, Edits, Framing, Paint, Scope};
-use frame_heads::Rate;
-use frame_lists::Range;
 use frame_requests::{Seen, Shape};
+use frame_texts::{Range, Rate};
 use image_commands::{Change, Window};
 use std::alloc::{AllocError, Global};
 use std::io;

@@ -1,8 +1,8 @@
 -- Why edits beside a list of boxes are refused.
 use Rattle.std.proofs.Common.{◌≡◌, ◌≢◌, ℕ, true, List, [], ◌∷◌, Option, Some, None, refl, inl, inr}
 use Rattle.std.specs.List.{flat_map}
-use Rattle.text_model.specs.Parts.{parts_of}
-use Rattle.frame_lists.specs.Boxes.{each_box}
+use Rattle.texts.specs.Parts.{parts_of}
+use Rattle.frame_texts.specs.Boxes.{each_box}
 use Rattle.frame_edits.specs.Edits.{Edits, edits}
 use Rattle.frame_edits.specs.Lists.{framing_after, with_lines}
 use Rattle.frame_edits.specs.declared.box_covers.BoxStyle.{BoxStyle}

@@ -2,8 +2,8 @@
 use Rattle.std.proofs.Common.{◌<◌, ℕ, List, [], ◌∷◌, Option, Some, None, length, arith}
 use Rattle.std.proofs.lemmas.List.{length-map}
 use Rattle.std.proofs.lemmas.List.Sorted.{length_permutation}
-use Rattle.frame_lists.specs.Boxes.{HasBoxes}
-use Rattle.frame_lists.specs.declared.boxes.Tracked.{Tracked}
+use Rattle.frame_texts.specs.Boxes.{HasBoxes}
+use Rattle.frame_texts.specs.declared.boxes.Tracked.{Tracked}
 use Rattle.frame_edits.specs.BoxCovers.{cover_of}
 use Rattle.frame_edits.specs.Holds.{held}
 use Rattle.frame_edits.specs.declared.box_covers.BoxStyle.{BoxStyle}

@@ -6,13 +6,13 @@ use Rattle.std.proofs.lemmas.Bool.Decides.{nat_tests}
 use Rattle.std.proofs.lemmas.List.Elements.{All-append, All-cons, All-map, All-nil}
 use Rattle.std.proofs.lemmas.List.Sorted.{All-permutation}
 use Rattle.std.proofs.lemmas.Option.{get_or_from_slice_get, slice_get_within}
-use Rattle.text_model.proofs.FieldNumbers.{number_of-is}
-use Rattle.text_model.proofs.Options.{bind_some, guard_some, map_some, some_is}
-use Rattle.text_model.specs.Parts.{parts_of}
-use Rattle.text_model.specs.Reading.{first_of_parts, number_of}
-use Rattle.frame_lists.specs.Boxes.{box_in, box_of, box_text, boxes_by, counted, each_box, frame_of, line_boxes, with_boxes, without_white}
-use Rattle.frame_lists.specs.Tracks.{comes_at, goes_on_at, missing}
-use Rattle.frame_lists.specs.declared.boxes.Tracked.{Tracked}
+use Rattle.texts.proofs.FieldNumbers.{number_of-is}
+use Rattle.texts.proofs.Options.{bind_some, guard_some, map_some, some_is}
+use Rattle.texts.specs.Parts.{parts_of}
+use Rattle.texts.specs.Reading.{first_of_parts, number_of}
+use Rattle.frame_texts.specs.Boxes.{box_in, box_of, box_text, boxes_by, counted, each_box, frame_of, line_boxes, with_boxes, without_white}
+use Rattle.frame_texts.specs.Tracks.{comes_at, goes_on_at, missing}
+use Rattle.frame_texts.specs.declared.boxes.Tracked.{Tracked}
 use Rattle.frame_edits.specs.BoxCovers.{cover_of}
 use Rattle.frame_edits.specs.Holds.{between, filled, held_at, kept, kept_by, kept_on}
 use Rattle.frame_edits.specs.declared.box_covers.BoxStyle.{BoxStyle}

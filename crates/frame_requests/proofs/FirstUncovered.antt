@@ -3,7 +3,7 @@ use Rattle.std.proofs.Common.{◌≡◌, ◌≢◌, ◌≤◌, ◌<◌, ◌+◌,
 use Rattle.std.specs.List.{slice_get}
 use Rattle.std.specs.Option.{is_some, option_map}
 use Rattle.std.proofs.lemmas.Bool.{cases_lt}
-use Rattle.text_model.proofs.Options.{some_is}
+use Rattle.texts.proofs.Options.{some_is}
 use Rattle.frame_edits.specs.declared.words.Edit.{Edit}
 use Rattle.frame_requests.specs.Seen.{FirstFound, FirstUncovered, HasItsShape, HasLastShape, IsFirstUncovered, IsOneKnown, IsOtherTold, IsUncoveredAt, Keeps, Knows, NoneUncovered, Sees, frame_of, kept, known_of, last_seen, shape_at}
 use Rattle.frame_requests.specs.Uncovered.{IsUncovered}

@@ -1,13 +1,13 @@
 -- Why words and lines are refused.
 use Rattle.std.proofs.Common.{◌≡◌, ◌≢◌, ℕ, List, [], ◌++◌, Some, None, refl, ap, subst, ◌∙◌}
 use Rattle.std.specs.List.{flat_map}
-use Rattle.text_model.specs.Parts.{parts_of}
+use Rattle.texts.specs.Parts.{parts_of}
 use Rattle.frame_edits.specs.Edits.{Edits, edits}
 use Rattle.frame_edits.specs.Lists.{Adds, AreEdits, HaveEdits, NeedsMemory, NeedsPlace, framing_after, plain, with_lines}
 use Rattle.frame_edits.specs.Words.{Named}
 use Rattle.frame_edits.specs.declared.lists.Edits.{Edits as Made}
-use Rattle.frame_lists.specs.declared.fault.WordsFault.{WordsFault}
-use Rattle.frame_lists.specs.declared.fault.WordsFault.TheVariants.{NoEdit, Memory as NoMemory}
+use Rattle.frame_texts.specs.declared.fault.WordsFault.{WordsFault}
+use Rattle.frame_texts.specs.declared.fault.WordsFault.TheVariants.{NoEdit, Memory as NoMemory}
 use Rattle.frame_requests.specs.Words.{AreRefused, AreWords, RefusesLines, RefusesWords, refusal_of}
 use Rattle.frame_requests.specs.declared.words.Refusal.{Refusal}
 use Rattle.frame_requests.specs.declared.words.Refusal.TheVariants.{Empty, NoFrame}

@@ -1,8 +1,8 @@
 -- The edits that a person asks for: those of a file or of words, after the boxes of a list.
 use Rattle.std.specs.Prelude.{◌≡◌, ◌≢◌, ◌⊎◌, ℕ, Bool, true, false, if◌then◌else◌, List, [], Option, Some, None}
 use Rattle.std.specs.Option.{is_some}
-use Rattle.text_model.specs.Parts.{parts_of}
-use Rattle.frame_lists.specs.Boxes.{each_box}
+use Rattle.texts.specs.Parts.{parts_of}
+use Rattle.frame_texts.specs.Boxes.{each_box}
 use Rattle.frame_edits.specs.Edits.{Edits, edits}
 use Rattle.frame_edits.specs.Lists.{with_lines}
 use Rattle.frame_edits.specs.declared.box_covers.BoxStyle.{BoxStyle}

@@ -1,7 +1,7 @@
 -- Edits that begin with the boxes of a tracker's list.
 use Rattle.std.specs.Prelude.{◌≡◌, false, ℕ, List, [], ◌++◌, Option, Some, None}
-use Rattle.text_model.specs.Reading.{is_nil}
-use Rattle.frame_lists.specs.Boxes.{HasBoxes, each_box}
+use Rattle.texts.specs.Reading.{is_nil}
+use Rattle.frame_texts.specs.Boxes.{HasBoxes, each_box}
 use Rattle.frame_edits.specs.BoxCovers.{AreCovers}
 use Rattle.frame_edits.specs.Edits.{Edits}
 use Rattle.frame_edits.specs.Holds.{AreHeld}

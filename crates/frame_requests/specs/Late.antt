@@ -1,6 +1,6 @@
 -- Pairs of edits: one that may show pixels, and a later one of the same frames that hides them.
 use Rattle.std.specs.Prelude.{ℕ, ◌+◌, ◌&&◌, ◌||◌, Bool, true, false, not, List, [], ◌∷◌, ◌++◌, if◌then◌else◌, drop}
-use Rattle.text_model.specs.Reading.{is_nil}
+use Rattle.texts.specs.Reading.{is_nil}
 use Rattle.image_commands.specs.Changes.{fills, spreads}
 use Rattle.image_commands.specs.declared.changes.Change.{Change}
 use Rattle.image_commands.specs.declared.changes.Change.TheVariants.{Fill, Mosaic, Mean, Blur, Move, Flip}

@@ -2,11 +2,11 @@
 use Rattle.std.specs.Prelude.{◌≡◌, ℕ, ◌+◌, ◌==◌, ◌&&◌, ◌||◌, Bool, true, false, not, if◌then◌else◌, List, [], ◌∷◌, drop, slice_index, Option, Some, None, Result, Ok, Err, codes}
 use Rattle.std.specs.Option.{is_none, is_some, option_map}
 use Rattle.std.specs.Str.{bytes_eq}
-use Rattle.text_model.specs.Reading.{number_of}
+use Rattle.texts.specs.Reading.{number_of}
 use Rattle.image_commands.specs.declared.changes.Change.{Change}
 use Rattle.frame_edits.specs.Words.{way_of}
 use Rattle.frame_edits.specs.declared.paint.Paint.{Paint}
-use Rattle.frame_heads.specs.Names.{value_named}
+use Rattle.frame_texts.specs.Names.{value_named}
 use Rattle.frame_requests.specs.declared.options.Item.{Item}
 use Rattle.frame_requests.specs.declared.options.Item.TheVariants as item
 use Rattle.frame_requests.specs.declared.options.Followed.{Followed}

@@ -2,8 +2,8 @@
 use Rattle.std.specs.Prelude.{◌≡◌, ◌≢◌, ◌≤◌, ◌<◌, ◌+◌, ◌⊎◌, ◌==◌, ℕ, Bool, true, nat_lt, if◌then◌else◌, List, [], ◌∷◌, ◌++◌, reverse, Option, Some, None, IfSome, get_or, length}
 use Rattle.std.specs.List.{slice_get}
 use Rattle.std.specs.Option.{is_some, option_map}
-use Rattle.text_model.specs.Reading.{◌>>=◌}
-use Rattle.frame_heads.specs.declared.rate.Rate.{Rate}
+use Rattle.texts.specs.Reading.{◌>>=◌}
+use Rattle.frame_texts.specs.declared.rate.Rate.{Rate}
 use Rattle.frame_edits.specs.declared.words.Edit.{Edit}
 use Rattle.frame_requests.specs.Uncovered.{IsUncovered, rate_in, size_in}
 use Rattle.frame_requests.specs.declared.seen.Known.{Known}

@@ -1,8 +1,8 @@
 -- Covers that cover nothing in a frame that they are for.
 use Rattle.std.specs.Prelude.{◌≡◌, ◌≤◌, ◌<◌, ℕ, Bool, true, Option, Some, None}
 use Rattle.frame_edits.specs.Covers.{KeepsMargin, changes_nothing, drawn, one_pixel, video_unit}
-use Rattle.frame_lists.specs.Ranges.{frames_in}
-use Rattle.frame_heads.specs.declared.rate.Rate.{Rate}
+use Rattle.frame_texts.specs.Ranges.{frames_in}
+use Rattle.frame_texts.specs.declared.rate.Rate.{Rate}
 use Rattle.frame_edits.specs.declared.words.Edit.{Edit}
 use Rattle.image_shape.specs.declared.window.Window.{Window}
 use Rattle.frame_requests.specs.declared.seen.Shape.{Shape}

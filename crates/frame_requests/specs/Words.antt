@@ -2,17 +2,17 @@
 use Rattle.std.specs.Prelude.{◌≡◌, ◌≢◌, ◌&&◌, ◌<◌, ℕ, Bool, true, false, nat_lt, IsTrue, List, [], All, Some, None, IfSome, length, take}
 use Rattle.std.specs.List.{flat_map, list_any, slice_get}
 use Rattle.std.specs.Option.{is_none}
-use Rattle.text_model.specs.Parts.{parts_of}
-use Rattle.text_model.specs.Reading.{is_nil}
+use Rattle.texts.specs.Parts.{parts_of}
+use Rattle.texts.specs.Reading.{is_nil}
 use Rattle.frame_edits.specs.Edits.{Edits, edits}
 use Rattle.frame_edits.specs.Lists.{AreEdits, HaveEdits, NeedsMemory, NeedsPlace, framing_after, with_lines}
 use Rattle.frame_edits.specs.Words.{Named}
 use Rattle.image_commands.specs.Changes.{is_blur}
-use Rattle.frame_lists.specs.declared.ranges.Range.{Range}
-use Rattle.frame_lists.specs.declared.ranges.Range.TheVariants.{Frames, Times}
+use Rattle.frame_texts.specs.declared.ranges.Range.{Range}
+use Rattle.frame_texts.specs.declared.ranges.Range.TheVariants.{Frames, Times}
 use Rattle.frame_edits.specs.declared.words.Edit.{Edit}
-use Rattle.frame_lists.specs.declared.fault.WordsFault.{WordsFault}
-use Rattle.frame_lists.specs.declared.fault.WordsFault.TheVariants.{NoEdit, Memory as NoMemory}
+use Rattle.frame_texts.specs.declared.fault.WordsFault.{WordsFault}
+use Rattle.frame_texts.specs.declared.fault.WordsFault.TheVariants.{NoEdit, Memory as NoMemory}
 use Rattle.frame_requests.specs.declared.words.Refusal.{Refusal}
 use Rattle.frame_requests.specs.declared.words.Refusal.TheVariants.{Empty, NoFrame, NoEdits, Memory}
 

@@ -9,7 +9,7 @@ ghost use Rattle.frame_requests.specs.Words.{AreUsable, HaveFrames};
 use crate::boxes::with_boxes;
 use crate::words::{Refusal, edits_of_lines, edits_of_words};
 use frame_edits::{BoxStyle, Edits};
-use frame_lists::are_boxes;
+use frame_texts::are_boxes;
 use std::alloc::Global;
 
 // The edits of words. Beside a list of boxes there may be no word.

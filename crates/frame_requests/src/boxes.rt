@@ -2,13 +2,13 @@
 
 ghost use Rattle.std.specs.Prelude.{◌≡◌, IfErr, IfOk};
 ghost use Rattle.frame_requests.specs.Boxes.{BeginsWithBoxes, BoxesAreRefused, CoverBoxes};
-ghost use Rattle.frame_lists.specs.Boxes.{HasBoxes, each_box};
+ghost use Rattle.frame_texts.specs.Boxes.{HasBoxes, each_box};
 ghost use Rattle.frame_requests.specs.Words.{AreUsable, HaveFrames};
 ghost use Rattle.frame_edits.specs.Lists.{plain};
 
 use crate::words::Refusal;
 use frame_edits::{BoxStyle, Edit, Edits, read_boxes, read_held};
-use frame_lists::WordsFault;
+use frame_texts::WordsFault;
 use std::alloc::Global;
 
 // What the boxes of a tracker's list become, which are held for so many frames.

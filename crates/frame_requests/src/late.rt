@@ -5,7 +5,7 @@ ghost use Rattle.frame_edits.specs.Order.{covers_first, ends_after, may_meet};
 ghost use Rattle.frame_requests.specs.Late.{hides, hiding_from, is_early, is_late, late_pairs, left_after, pairs_among, spoils};
 
 use frame_edits::{Edit, Paint};
-use frame_lists::Range;
+use frame_texts::Range;
 use image_commands::Change;
 use std::alloc::{AllocError, Global};
 

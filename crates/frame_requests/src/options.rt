@@ -5,7 +5,7 @@ ghost use Rattle.std.specs.Option.{is_some};
 ghost use Rattle.frame_requests.specs.Options.{AreMisread, AreOptions, alone_of, followed_at, followed_of, is_name, item_at, lacks_boxes, list_option, misread_word, no_options, way_at, with_item, with_word};
 
 use frame_edits::{Paint, read_way};
-use frame_heads::value_named;
+use frame_texts::value_named;
 use image_commands::Change;
 use texts::Field;
 

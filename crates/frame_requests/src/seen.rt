@@ -7,7 +7,7 @@ ghost use Rattle.std.specs.Option.{option_map};
 use frame_edits::{
     Edit, picture_covers_nothing, picture_window, video_covers_nothing, video_window,
 };
-use frame_heads::{Format, Picture, Rate};
+use frame_texts::{Format, Picture, Rate};
 use image_commands::Window;
 use std::alloc::Global;
 

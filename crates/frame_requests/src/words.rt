@@ -5,11 +5,11 @@ ghost use Rattle.std.specs.Prelude.{◌≡◌, IfOk, IfErr, IfSome, OnOk, Some, 
 ghost use Rattle.frame_edits.specs.Edits.{edits};
 ghost use Rattle.frame_edits.specs.Lists.{with_lines, plain};
 ghost use Rattle.frame_requests.specs.Words.{AreWords, AreUsable, AreRefused, HaveFrames, IsFirstEmpty, RefusesLines, RefusesWords, has_blur, has_span, refusal_of};
-ghost use Rattle.text_model.specs.Parts.{parts_of};
+ghost use Rattle.texts.specs.Parts.{parts_of};
 
 use crate::options::Misread;
 use frame_edits::{Edit, Edits};
-use frame_lists::{Range, WordsFault};
+use frame_texts::{Range, WordsFault};
 use image_commands::Change;
 use std::alloc::Global;
 use std::{env, io};

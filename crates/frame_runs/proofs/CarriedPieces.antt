@@ -3,7 +3,7 @@ use Rattle.std.proofs.Common.{◌≡◌, ℕ, ◌+◌, ◌⊎◌, Bool, true, fa
 use Rattle.std.specs.List.{AllByRecursion}
 use Rattle.std.proofs.lemmas.List.Elements.{recursion_from_All}
 use Rattle.frame_edits.specs.Edits.{Edits}
-use Rattle.frame_heads.specs.Format.{format_of}
+use Rattle.frame_texts.specs.Format.{format_of}
 use Rattle.frame_formats.specs.Recipe.{Recipe, video_recipe}
 use Rattle.frame_runs.specs.Alike.{BeginsWith}
 use Rattle.frame_runs.specs.Passing.{IsNotEditedNext}

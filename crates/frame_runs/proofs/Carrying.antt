@@ -6,10 +6,10 @@ use Rattle.std.proofs.lemmas.List.{append-nil}
 use Rattle.std.proofs.lemmas.List.Elements.{recursion_from_All}
 use Rattle.devices.specs.Whole.{AppendsBeginning, IsNoLine}
 use Rattle.frame_formats.specs.Plan.{Tells}
-use Rattle.frame_heads.specs.Format.{format_of}
+use Rattle.frame_texts.specs.Format.{format_of}
 use Rattle.frame_edits.specs.Edits.{Edits}
 use Rattle.frame_formats.specs.Recipe.{Recipe, video_recipe}
-use Rattle.frame_heads.specs.declared.header.Format.{Format}
+use Rattle.frame_texts.specs.declared.header.Format.{Format}
 use Rattle.frame_formats.specs.declared.plans.PlanFault.{PlanFault}
 use Rattle.frame_formats.specs.declared.plans.PlanFault.TheVariants.{Outside as NoPlan, Memory as NoMemory}
 use Rattle.frame_runs.specs.Stream.{Piece, IsPiece, piece_text, pieces_text, made_text, all_made}

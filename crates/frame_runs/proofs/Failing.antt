@@ -9,7 +9,7 @@ use Rattle.frame_edits.specs.Edits.{Edits}
 use Rattle.frame_formats.specs.Recipe.{Recipe}
 use Rattle.frame_formats.specs.declared.plans.PlanFault.{PlanFault}
 use Rattle.frame_formats.specs.declared.plans.PlanFault.TheVariants.{Outside as NoPlan, Memory as NoMemory}
-use Rattle.frame_heads.specs.Picture.{ApartHeads, BeginsWithLetter}
+use Rattle.frame_texts.specs.Picture.{ApartHeads, BeginsWithLetter}
 use Rattle.frame_runs.specs.Failing.{EndsAlone, FramesFail, InputFails, PicturesFail}
 use Rattle.frame_runs.specs.Passing.{CellsCut, LineCut, LineRead, Passed, PassesCells, PassesPicture, PassesPictures}
 use Rattle.frame_runs.specs.Pictures.{IsNoPicture, PictureHead, PictureWithin, behind_letter}

@@ -2,11 +2,11 @@
 use Rattle.std.proofs.Common.{◌≡◌, ℕ, ◌<◌, ◌≤◌, ◌+◌, List, [], ◌∷◌, ◌++◌, ◌⊎◌, Option, Some, None, refl, sym, ap, ◌∙◌, append-nil, inl, inr, length, length-append, arith, IfSome}
 use Rattle.std.specs.Io.KnownBytes.{Consumes, Keeps}
 use Rattle.std.proofs.KnownBytes.{Consumes-kept, Consumes-trans}
-use Rattle.frame_heads.specs.Picture.{picture_of, scanned, pushed, start, done_as, OneByteMore, BadStays, BeginsWithLetter}
+use Rattle.frame_texts.specs.Picture.{picture_of, scanned, pushed, start, done_as, OneByteMore, BadStays, BeginsWithLetter}
 use Rattle.frame_edits.specs.Edits.{Edits}
-use Rattle.frame_heads.specs.declared.picture.Picture.{Picture}
-use Rattle.frame_heads.specs.declared.picture.Scan.{Scan}
-use Rattle.frame_heads.specs.declared.picture.Scan.TheVariants.{Bad}
+use Rattle.frame_texts.specs.declared.picture.Picture.{Picture}
+use Rattle.frame_texts.specs.declared.picture.Scan.{Scan}
+use Rattle.frame_texts.specs.declared.picture.Scan.TheVariants.{Bad}
 use Rattle.frame_runs.specs.Pictures.{IsNoPicture, HeadBegun, HeadCut, behind_letter}
 use Rattle.frame_runs.specs.Passing.{IsNoNext}
 

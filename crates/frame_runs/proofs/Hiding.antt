@@ -2,10 +2,10 @@
 use Rattle.std.proofs.Common.{◌≡◌, ◌⊎◌, ℕ, ◌+◌, Bool, true, false, List, [], ◌∷◌, ◌++◌, Option, Some, None, Result, Ok, Err, length, refl, sym, ap, ◌∙◌, subst, arith, append_assoc, inl, inr}
 use Rattle.std.specs.List.{AllByRecursion}
 use Rattle.std.proofs.lemmas.List.Elements.{recursion_from_All}
-use Rattle.text_model.proofs.Options.{some_is}
-use Rattle.frame_heads.specs.Picture.{ApartHeads, BeginsWithLetter}
+use Rattle.texts.proofs.Options.{some_is}
+use Rattle.frame_texts.specs.Picture.{ApartHeads, BeginsWithLetter}
 use Rattle.image_planes.specs.Unseen.{PlanesAlike}
-use Rattle.frame_heads.specs.Format.{format_of}
+use Rattle.frame_texts.specs.Format.{format_of}
 use Rattle.frame_edits.specs.Edits.{Edits}
 use Rattle.frame_formats.specs.Recipe.{Recipe, HidesAlike, PicturesHide, PicturesHideFilled, VideosHide, VideosHideFilled, video_recipe}
 use Rattle.frame_runs.specs.Alike.{Alike, CutAlike, PieceAlike, PiecesAlike, Hides}

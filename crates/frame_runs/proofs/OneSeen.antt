@@ -3,13 +3,13 @@ use Rattle.std.proofs.Common.{◌≡◌, ◌⊎◌, ◌<◌, ◌+◌, ℕ, zero,
 use Rattle.std.specs.List.{AllByRecursion, slice_get}
 use Rattle.std.specs.Io.KnownBytes.{Consumes}
 use Rattle.std.proofs.lemmas.List.Elements.{recursion_from_All}
-use Rattle.text_model.proofs.Options.{some_is}
+use Rattle.texts.proofs.Options.{some_is}
 use Rattle.image_planes.specs.Unseen.{PlanesAlike}
 use Rattle.frame_edits.specs.Edits.{Edits}
 use Rattle.frame_formats.specs.Recipe.{picture_recipe}
-use Rattle.frame_heads.specs.Format.{format_of}
-use Rattle.frame_heads.specs.Rates.{rate_of}
-use Rattle.frame_heads.specs.declared.picture.Picture.{Picture}
+use Rattle.frame_texts.specs.Format.{format_of}
+use Rattle.frame_texts.specs.Rates.{rate_of}
+use Rattle.frame_texts.specs.declared.picture.Picture.{Picture}
 use Rattle.frame_requests.specs.declared.fault.RunFault.{RunFault}
 use Rattle.frame_requests.specs.declared.fault.RunFault.TheVariants.{Header, Outside, Frame}
 use Rattle.frame_requests.specs.Seen.{Sees}

@@ -3,9 +3,9 @@ use Rattle.std.proofs.Common.{◌≡◌, ◌≤◌, ◌<◌, ◌+◌, ℕ, zero,
 use Rattle.std.specs.List.{slice_get}
 use Rattle.std.proofs.lemmas.Bool.{cases_lt}
 use Rattle.std.proofs.lemmas.Option.{slice_get_cases}
-use Rattle.text_model.proofs.Options.{some_is}
+use Rattle.texts.proofs.Options.{some_is}
 use Rattle.frame_edits.specs.declared.words.Edit.{Edit}
-use Rattle.frame_heads.specs.declared.picture.Picture.{Picture}
+use Rattle.frame_texts.specs.declared.picture.Picture.{Picture}
 use Rattle.frame_requests.specs.Seen.{AreKept, FirstUncovered, IsUncoveredAt, Knows, Sees, kept_shapes, known_of, last_number, shape_at}
 use Rattle.frame_requests.specs.declared.seen.Known.{Known}
 use Rattle.frame_requests.specs.declared.seen.Seen.{Seen}

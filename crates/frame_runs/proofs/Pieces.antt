@@ -1,15 +1,15 @@
 -- The pieces of a stream are read in one way.
 use Rattle.std.proofs.Common.{◌≡◌, ◌≢◌, ℕ, ◌<◌, List, [], ◌∷◌, ◌++◌, Option, Some, None, length, refl, sym, ap, ◌∙◌, arith, append_assoc, length-append, append-nil, IfSome}
 use Rattle.std.specs.Io.KnownBytes.{Consumes, IsAtEnd}
-use Rattle.text_model.proofs.Options.{some_is}
-use Rattle.frame_heads.specs.Picture.{picture_of, ApartHeads, BeginsWithLetter}
+use Rattle.texts.proofs.Options.{some_is}
+use Rattle.frame_texts.specs.Picture.{picture_of, ApartHeads, BeginsWithLetter}
 use Rattle.frame_edits.specs.Edits.{Edits}
 use Rattle.frame_formats.specs.Recipe.{Recipe, picture_recipe}
 use Rattle.frame_runs.specs.Stream.{Piece, piece, IsPiece, piece_text}
 use Rattle.frame_runs.specs.Video.{FrameHead, frame_line, with_head}
 use Rattle.frame_runs.specs.Pictures.{IsHead, PictureHead, BeginsPicture, IsNoPicture, IsPictureNotEdited}
 use Rattle.frame_runs.specs.Passing.{IsCut}
-use Rattle.frame_heads.specs.declared.picture.Picture.{Picture}
+use Rattle.frame_texts.specs.declared.picture.Picture.{Picture}
 use Rattle.frame_runs.proofs.FrameLines.{one_line}
 
 -- no head begins another, and each has one recipe

@@ -3,17 +3,17 @@ use Rattle.std.proofs.Common.{◌≡◌, ◌≢◌, ℕ, ◌+◌, ◌<◌, ◌�
 use Rattle.std.specs.Io.KnownBytes.{Consumes, Appends, Keeps}
 use Rattle.std.proofs.KnownBytes.{Consumes-trans}
 use Rattle.devices.specs.Whole.{AppendsBeginning}
-use Rattle.frame_heads.specs.Picture.{ApartHeads, BeginsWithLetter}
+use Rattle.frame_texts.specs.Picture.{ApartHeads, BeginsWithLetter}
 use Rattle.frame_edits.specs.Edits.{Edits}
 use Rattle.frame_formats.specs.Recipe.{Recipe, buffers_len, picture_recipe}
-use Rattle.frame_heads.specs.declared.picture.Picture.{Picture}
+use Rattle.frame_texts.specs.declared.picture.Picture.{Picture}
 use Rattle.frame_runs.specs.Stream.{Piece, piece, pieces_text, all_made}
 use Rattle.frame_runs.specs.Video.{FrameHead, with_head}
 use Rattle.frame_runs.specs.Pictures.{IsHead, PictureHead, PictureWithin, IsNoPicture, IsPictureNotEdited, behind_letter}
 use Rattle.frame_runs.specs.Passing.{LineRead, IsNoFrameLine, IsNoFrame, IsNoNext, IsNotEditedNext, IsCut, AtHead, Passed, PassedUpTo, PassedSome, PassedPart, CellsPassed, PassesCells, PassesFrames, PassesPicture, PassesPictures, Anything}
 use Rattle.frame_runs.specs.Kept.{HasNoPlan, NeedsMemory, PictureStops, PicturesStop, Stops, PassedLast, LastIs, last_piece}
 use Rattle.frame_runs.specs.declared.pictures.Kept.{Kept}
-use Rattle.text_model.proofs.Options.{some_is}
+use Rattle.texts.proofs.Options.{some_is}
 use Rattle.frame_requests.specs.declared.fault.RunFault.{RunFault}
 use Rattle.frame_requests.specs.declared.fault.RunFault.TheVariants.{Header, Outside, Frame, Memory, Input, Output}
 use Rattle.frame_runs.proofs.Pieces.{frames_readable, pictures_readable, cut_piece, cut_some}

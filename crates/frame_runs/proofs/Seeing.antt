@@ -7,13 +7,13 @@ use Rattle.std.proofs.lemmas.Bool.{cases_lt}
 use Rattle.std.proofs.lemmas.List.{append-nil, get_or_append_left}
 use Rattle.std.proofs.lemmas.Option.{slice_get-get_or, slice_get_within}
 use Rattle.std.proofs.Math.Seq.{get_or-append_seam}
-use Rattle.text_model.proofs.Options.{some_is}
+use Rattle.texts.proofs.Options.{some_is}
 use Rattle.frame_edits.specs.Edits.{Edits}
-use Rattle.frame_heads.specs.Format.{format_of}
-use Rattle.frame_heads.specs.Rates.{rate_of}
-use Rattle.frame_heads.specs.declared.header.Format.{Format}
-use Rattle.frame_heads.specs.declared.picture.Picture.{Picture}
-use Rattle.frame_heads.specs.declared.rate.Rate.{Rate}
+use Rattle.frame_texts.specs.Format.{format_of}
+use Rattle.frame_texts.specs.Rates.{rate_of}
+use Rattle.frame_texts.specs.declared.header.Format.{Format}
+use Rattle.frame_texts.specs.declared.picture.Picture.{Picture}
+use Rattle.frame_texts.specs.declared.rate.Rate.{Rate}
 use Rattle.frame_requests.specs.declared.fault.RunFault.{RunFault}
 use Rattle.frame_requests.specs.declared.fault.RunFault.TheVariants.{Header, Outside, Frame, Memory, Input, Output}
 use Rattle.frame_requests.specs.Seen.{Sees, last_seen, shape_at, shape_seen}
@@ -23,7 +23,7 @@ use Rattle.frame_requests.specs.declared.seen.Shape.TheVariants as shape
 use Rattle.frame_formats.specs.Recipe.{Recipe, picture_recipe}
 use Rattle.frame_formats.specs.declared.plans.PlanFault.{PlanFault}
 use Rattle.frame_formats.specs.declared.plans.PlanFault.TheVariants.{Outside as NoPlan, Memory as NoMemory}
-use Rattle.frame_heads.specs.Picture.{BeginsWithLetter}
+use Rattle.frame_texts.specs.Picture.{BeginsWithLetter}
 use Rattle.frame_runs.specs.Kept.{HasNoPlan}
 use Rattle.frame_runs.specs.Passing.{PassesCells, PassesFrames, PassesPicture}
 use Rattle.frame_runs.specs.Program.{begins_picture, fault_of_plan}

@@ -1,14 +1,14 @@
 -- The first edit is one of the video or the picture for which memory is asked.
 use Rattle.std.proofs.Common.{◌≡◌, ◌≢◌, ℕ, List, [], ◌∷◌, ◌++◌, Option, Some, None, Err, arith, refl, sym, ◌∙◌}
 use Rattle.std.specs.Io.KnownBytes.{Consumes}
-use Rattle.text_model.specs.Reading.{◌>>=◌}
-use Rattle.text_model.proofs.Options.{bind_some}
+use Rattle.texts.specs.Reading.{◌>>=◌}
+use Rattle.texts.proofs.Options.{bind_some}
 use Rattle.frame_edits.specs.Edits.{Edits}
 use Rattle.frame_edits.specs.Covers.{one_pixel, video_unit}
-use Rattle.frame_heads.specs.Format.{format_of}
-use Rattle.frame_heads.specs.Rates.{rate_of}
-use Rattle.frame_heads.specs.declared.header.Format.{Format}
-use Rattle.frame_heads.specs.declared.picture.Picture.{Picture}
+use Rattle.frame_texts.specs.Format.{format_of}
+use Rattle.frame_texts.specs.Rates.{rate_of}
+use Rattle.frame_texts.specs.declared.header.Format.{Format}
+use Rattle.frame_texts.specs.declared.picture.Picture.{Picture}
 use Rattle.frame_formats.specs.Layers.{jobs_on, picture_layers, picture_pixel, video_layers}
 use Rattle.frame_formats.specs.Recipe.{Recipe, finished_picture, finished_video, picture_recipe, video_recipe}
 use Rattle.frame_formats.specs.Steps.{StartsWell, all_some, step_in}

@@ -5,14 +5,14 @@ use Rattle.std.specs.Option.{option_map}
 use Rattle.std.specs.Io.KnownBytes.{Consumes}
 use Rattle.frame_edits.specs.Edits.{Edits}
 use Rattle.frame_edits.specs.Covers.{one_pixel, video_unit}
-use Rattle.frame_heads.specs.Format.{format_of}
-use Rattle.frame_heads.specs.Rates.{rate_of}
+use Rattle.frame_texts.specs.Format.{format_of}
+use Rattle.frame_texts.specs.Rates.{rate_of}
 use Rattle.frame_formats.specs.Planned.{recipe_of, plan_room, plan_other_room}
 use Rattle.frame_formats.specs.Recipe.{buffers_len, picture_recipe}
 use Rattle.frame_formats.specs.Steps.{StartsWell, step_in}
 use Rattle.image_planes.specs.Scratch.{HasRoom}
-use Rattle.frame_heads.specs.declared.header.Format.{Format}
-use Rattle.frame_heads.specs.declared.picture.Picture.{Picture}
+use Rattle.frame_texts.specs.declared.header.Format.{Format}
+use Rattle.frame_texts.specs.declared.picture.Picture.{Picture}
 use Rattle.frame_runs.specs.Stream.{Piece, IsPiece, pieces_text}
 use Rattle.frame_runs.specs.Pictures.{IsHead, PictureHead, PictureWithin}
 use Rattle.frame_runs.specs.Passing.{Passed}

@@ -8,7 +8,7 @@ use Rattle.frame_formats.specs.Recipe.{Recipe}
 use Rattle.frame_runs.specs.Stream.{Piece, IsPiece, piece_text, pieces_text, made_text, all_made}
 use Rattle.frame_runs.specs.Video.{AreParameters, FrameHead, frame_line}
 use Rattle.frame_runs.specs.Pictures.{PictureHead, PictureWithin, BeginsPicture, IsNoPicture, IsPictureNotEdited}
-use Rattle.frame_heads.specs.declared.picture.Picture.{Picture}
+use Rattle.frame_texts.specs.declared.picture.Picture.{Picture}
 use Rattle.frame_runs.specs.declared.frames.Begin.{Begin}
 use Rattle.frame_runs.specs.declared.frames.Begin.TheVariants.{Whole, Open, End as AtEnd, Other as NoWord}
 use Rattle.frame_runs.specs.declared.frames.Found.{Found}

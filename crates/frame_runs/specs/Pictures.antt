@@ -3,11 +3,11 @@ use Rattle.std.specs.Prelude.{◌≡◌, ◌≢◌, ◌≤◌, ◌+◌, ℕ, Lis
 use Rattle.std.specs.Option.{option_map}
 use Rattle.std.specs.Io.KnownBytes.{Consumes}
 use Rattle.devices.specs.Whole.{Gave}
-use Rattle.frame_heads.specs.Picture.{picture_of, scanned, start}
+use Rattle.frame_texts.specs.Picture.{picture_of, scanned, start}
 use Rattle.frame_edits.specs.Edits.{Edits}
 use Rattle.frame_formats.specs.Recipe.{Recipe, buffers_len, picture_recipe}
-use Rattle.frame_heads.specs.declared.picture.Picture.{Picture}
-use Rattle.frame_heads.specs.declared.picture.Scan.{Scan}
+use Rattle.frame_texts.specs.declared.picture.Picture.{Picture}
+use Rattle.frame_texts.specs.declared.picture.Scan.{Scan}
 use Rattle.frame_requests.specs.declared.fault.RunFault.{RunFault}
 use Rattle.frame_requests.specs.declared.fault.RunFault.TheVariants.{Input}
 

@@ -7,10 +7,10 @@ use Rattle.frame_runs.specs.Stream.{Piece, IsPiece, pieces_text, all_made}
 use Rattle.frame_runs.specs.Video.{FrameHead}
 use Rattle.frame_runs.specs.Pictures.{PictureHead, IsNoPicture}
 use Rattle.frame_runs.specs.Passing.{IsNoFrame, IsNoNext, IsNotEditedNext, AtHead, Anything}
-use Rattle.frame_heads.specs.Format.{format_of}
+use Rattle.frame_texts.specs.Format.{format_of}
 use Rattle.frame_edits.specs.Edits.{Edits}
 use Rattle.frame_formats.specs.Recipe.{Recipe, video_recipe}
-use Rattle.frame_heads.specs.declared.header.Format.{Format}
+use Rattle.frame_texts.specs.declared.header.Format.{Format}
 use Rattle.frame_formats.specs.declared.plans.PlanFault.{PlanFault}
 use Rattle.frame_formats.specs.declared.plans.PlanFault.TheVariants.{Outside as NoPlan, Memory as NoMemory}
 use Rattle.frame_requests.specs.declared.fault.RunFault.{RunFault}

@@ -4,10 +4,10 @@ use Rattle.std.specs.List.{AllByRecursion, slice_get}
 use Rattle.std.specs.Io.KnownBytes.{Consumes}
 use Rattle.frame_edits.specs.Edits.{Edits}
 use Rattle.frame_formats.specs.Recipe.{picture_recipe}
-use Rattle.frame_heads.specs.Format.{format_of}
-use Rattle.frame_heads.specs.Rates.{rate_of}
-use Rattle.frame_heads.specs.declared.header.Format.{Format}
-use Rattle.frame_heads.specs.declared.picture.Picture.{Picture}
+use Rattle.frame_texts.specs.Format.{format_of}
+use Rattle.frame_texts.specs.Rates.{rate_of}
+use Rattle.frame_texts.specs.declared.header.Format.{Format}
+use Rattle.frame_texts.specs.declared.picture.Picture.{Picture}
 use Rattle.frame_requests.specs.declared.fault.RunFault.{RunFault}
 use Rattle.frame_requests.specs.declared.fault.RunFault.TheVariants.{Header, Outside, Frame, Memory, Input, Output}
 use Rattle.frame_requests.specs.Seen.{Sees, last_seen, shape_at, shape_seen}

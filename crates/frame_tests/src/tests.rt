@@ -3,9 +3,8 @@
 
 use frame_edits::{BoxStyle, Edit, Edits, Paint, Scope, read_boxes, read_held};
 use frame_formats::{Plan, PlanFault};
-use frame_heads::{Kind, Picture, read_format};
-use frame_lists::{Range, WordsFault, are_boxes, read_tracked};
 use frame_requests::{Refusal, edits_asked};
+use frame_texts::{Kind, Picture, Range, WordsFault, are_boxes, read_format, read_tracked};
 use image_planes::{Change, Window};
 use std::alloc::Global;
 

@@ -8,7 +8,7 @@ ghost use Rattle.image_flips.specs.Triples.{triple_back, mirrored_triple};
 ghost use Rattle.image_writes.specs.Gathered.{AreGathered};
 
 use image_shape::tiles_along;
-use row_parts::{read_part, write_part};
+use image_writes::{read_part, write_part};
 use std::mem::size_of_val;
 
 /// Whether pixels of three cells go by blocks. Wider cells than those of two bytes gain nothing by

@@ -8,7 +8,7 @@ ghost use Rattle.std.specs.List.{AllZip};
 ghost use Rattle.std.specs.Vec.{vec_len, vec_capacity};
 ghost use Rattle.image_ops.specs.Clones.{AreWhole, GetsClones};
 
-use row_parts::is_word;
+use image_writes::is_word;
 use std::alloc::AllocError;
 use std::mem::size_of_val;
 use std::vec::VecCloneMethods;

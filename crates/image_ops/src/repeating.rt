@@ -7,7 +7,7 @@ ghost use Rattle.image_shape.specs.Shape.{shape_width, shape_height, shaped_grid
 ghost use Rattle.image_ops.specs.Repeated.{repeated, IsRepeated};
 
 use image_shape::{Shape, Stretch};
-use row_parts::copy_line;
+use image_writes::copy_line;
 
 // The cells become the pattern, again and again.
 fn repeat_cells<T: Copy>(row: &mut [T], pattern: &[T])

@@ -6,7 +6,7 @@
 ghost use Rattle.std.specs.Prelude.{◌≡◌, ◌*◌, ◌<◌, ◌≤◌, length, IsTrue};
 ghost use Rattle.std.specs.Cmp.Lexicographic.{pointwise};
 
-use row_parts::{part_of_row, read_part, write_part};
+use image_writes::{part_of_row, read_part, write_part};
 use std::mem::size_of_val;
 
 // The most cells and bytes of a short row that is copied, and of one that is compared.

@@ -8,7 +8,7 @@ ghost use Rattle.image_writes.specs.Gathered.{AreGathered};
 ghost use Rattle.image_writes.specs.Written.{Becomes, HaveSameSize};
 
 use image_shape::Shape;
-use row_parts::{read_part, write_part};
+use image_writes::{read_part, write_part};
 
 // The shape of a block of 256 cells.
 pub(crate) fn block_shape() -> Shape

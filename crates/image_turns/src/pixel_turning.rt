@@ -17,8 +17,7 @@ use crate::near::rows_near;
 use crate::turning::{Turn, is_near, transpose_pixels, turn_pixels};
 use image_flips::{copy_triples_back, triples_pay};
 use image_shape::{Shape, Window};
-use image_writes::exact_part;
-use row_parts::{read_part, write_part};
+use image_writes::{exact_part, read_part, write_part};
 use std::mem::size_of_val;
 
 // The most columns that are written at a time. They come from as many rows, whose lines stay in the

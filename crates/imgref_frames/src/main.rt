@@ -10,19 +10,18 @@ use devices::{
 };
 use frame_edits::{BoxStyle, Edits};
 pub use frame_edits::{Edit, Framing, Paint};
-pub use frame_heads::{Format, Picture, Rate};
-pub use frame_lists::Range;
 pub use frame_messages::is_wanted;
 use frame_messages::{
     Ending, Noted, Texts, ending_of, order_status, say_boxes, say_no_head, say_no_words,
     say_odd_boxes, say_outside, say_reason, say_shared, tell_found, write_report,
 };
-pub use frame_requests::{RunFault, Seen, Shape, Stretch};
 use frame_requests::{
     Files, Options, Refusal, edits_asked, has_blur, read_options, reads_input_twice, shared_file,
     words_of,
 };
+pub use frame_requests::{RunFault, Seen, Shape, Stretch};
 use frame_runs::{run, unsuited_in_frame};
+pub use frame_texts::{Format, Picture, Range, Rate};
 pub use image_planes::{Axes, Change, Scratch, Window};
 use std::fs::File;
 use std::io;

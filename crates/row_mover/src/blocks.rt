@@ -10,7 +10,7 @@ ghost use Rattle.std.specs.Prelude.{◌≡◌, ◌+◌, ◌-◌, ◌*◌, ◌<�
 ghost use Rattle.image_model.specs.Shifts.{shifted};
 ghost use Rattle.row_mover.specs.State.{block_at, GoesTo};
 
-use row_parts::{is_word, read_part, write_part, write_words};
+use image_writes::{is_word, read_part, write_part, write_words};
 
 // Copies `N` cells: all are read before one is written.
 fn copy_block_within<T: Copy, const N: usize>(cells: &mut [T], start: usize, target: usize)

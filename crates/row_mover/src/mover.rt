@@ -5,7 +5,7 @@ ghost use Rattle.image_model.specs.Shifts.{shifted};
 ghost use Rattle.row_mover.specs.State.{IsKnown, IsShifted};
 
 use crate::blocks::{copy_by_blocks, copy_ends_within, copy_few, copy_to_next, copy_to_previous};
-use row_parts::copy_line;
+use image_writes::copy_line;
 use std::marker::Model;
 use std::mem::size_of;
 

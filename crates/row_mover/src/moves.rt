@@ -7,7 +7,7 @@ ghost use Rattle.image_model.specs.Shifts.{rows_compacted, rows_moved, MovesRows
 ghost use Rattle.row_mover.specs.State.{AreApart, AreJoined, AreMoved, CanMove, IsKnown};
 
 use crate::mover::{ANY, BEFORE, BEHIND, FEW, NEXT, OVER, PREVIOUS, RowMover};
-use row_parts::{is_word, part_of_row};
+use image_writes::{is_word, part_of_row};
 use std::mem;
 
 impl<T: Copy> RowMover<'_, T> {

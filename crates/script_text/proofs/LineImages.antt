@@ -5,13 +5,13 @@ use Rattle.std.specs.Fmt.{decimal}
 use Rattle.std.proofs.lemmas.Bool.{leb-true, le-leb}
 use Rattle.image_model.specs.Layout.{Layout, layout, is_fitting}
 use Rattle.image_model.proofs.Places.{is_fitting_decides}
-use Rattle.text_model.specs.Fields.{IsWord, IsPixel}
+use Rattle.texts.specs.Fields.{IsWord, IsPixel}
 use Rattle.script_text.specs.Line.{IsScriptImage, image_line, entry_fields}
-use Rattle.text_model.specs.Reading.{◌>>=◌, number_of, number_at, each_of, pixel_of}
+use Rattle.texts.specs.Reading.{◌>>=◌, number_of, number_at, each_of, pixel_of}
 use Rattle.script_text.specs.Reading.{image_in, is_sized, sized}
-use Rattle.text_model.proofs.PartsJoined.{AllLack, and_parts, lacks-decimal}
-use Rattle.text_model.proofs.Options.{bind_some, guard_some}
-use Rattle.text_model.proofs.FieldTexts.{first_is, first_back, each_is, each_back, then, number_law, pixel_law}
+use Rattle.texts.proofs.PartsJoined.{AllLack, and_parts, lacks-decimal}
+use Rattle.texts.proofs.Options.{bind_some, guard_some}
+use Rattle.texts.proofs.FieldTexts.{first_is, first_back, each_is, each_back, then, number_law, pixel_law}
 
 sized_is : (i : Layout ℕ) → is_sized i ≡ true → IsWord i.stride → AllByRecursion IsPixel i.cells → IsScriptImage i
 sized_is i e stride cells =

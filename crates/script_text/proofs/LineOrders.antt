@@ -7,16 +7,16 @@ use Rattle.std.specs.Fmt.{decimal}
 use Rattle.std.proofs.lemmas.List.{append-nil}
 use Rattle.std.proofs.lemmas.Bool.{cases_Bool}
 use Rattle.std.proofs.lemmas.Slice.Eq.{bytes_eq-Decides}
-use Rattle.text_model.specs.Fields.{IsWord, IsPixel}
+use Rattle.texts.specs.Fields.{IsWord, IsPixel}
 use Rattle.script_text.specs.Fields.{IsPath, path_text}
 use Rattle.script_text.specs.Line.{Kind, a_number, a_pixel, a_place, Argument, number, pixel, place, kind_of, argument_fields, IsArgument, Form, forms, form_of, kinds_of, Order, order, IsOrder, order_line, entry_fields}
-use Rattle.text_model.specs.Reading.{◌>>=◌, is_nil, number_of, number_at, pixel_of, pixel_at}
+use Rattle.texts.specs.Reading.{◌>>=◌, is_nil, number_of, number_at, pixel_of, pixel_at}
 use Rattle.script_text.specs.Reading.{path_of, path_at, place_at, argument_at, arguments_at, order_at, order_in}
-use Rattle.text_model.proofs.FieldTexts.{first_is, first_back, then, number_law, pixel_law}
+use Rattle.texts.proofs.FieldTexts.{first_is, first_back, then, number_law, pixel_law}
 use Rattle.script_text.proofs.PathTexts.{path_law, lacks-path}
-use Rattle.text_model.proofs.FieldNumbers.{not_true}
-use Rattle.text_model.proofs.Options.{bind_some, map_some, guard_some, some_is, nil_is}
-use Rattle.text_model.proofs.PartsJoined.{lacks, AllLack, and_parts, lacks-decimal}
+use Rattle.texts.proofs.FieldNumbers.{not_true}
+use Rattle.texts.proofs.Options.{bind_some, map_some, guard_some, some_is, nil_is}
+use Rattle.texts.proofs.PartsJoined.{lacks, AllLack, and_parts, lacks-decimal}
 
 -- ---- one argument
 

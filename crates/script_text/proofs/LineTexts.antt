@@ -4,14 +4,14 @@ use Rattle.std.specs.Option.{option_map}
 use Rattle.std.specs.Str.{bytes_eq}
 use Rattle.std.proofs.lemmas.Slice.Eq.{bytes_eq-Decides}
 use Rattle.script_text.specs.Line.{Entry, image_line, order_line, entry_fields, entry_text, entry_of, IsEntry, IsLineOf, EachTextHasOneValue}
-use Rattle.text_model.specs.Parts.{parts_of}
+use Rattle.texts.specs.Parts.{parts_of}
 use Rattle.script_text.specs.Reading.{Gives, image_in, order_in, line_in}
 use Rattle.script_text.specs.declared.line.Line.{Line}
 use Rattle.script_text.specs.declared.fault.LineFault.{LineFault}
 use Rattle.script_text.specs.declared.fault.LineFault.TheVariants.{Bad}
-use Rattle.text_model.proofs.PartsJoined.{parts_of-join}
-use Rattle.text_model.proofs.Options.{some, some_is, map_some, choice}
-use Rattle.text_model.proofs.FieldTexts.{join_is}
+use Rattle.texts.proofs.PartsJoined.{parts_of-join}
+use Rattle.texts.proofs.Options.{some, some_is, map_some, choice}
+use Rattle.texts.proofs.FieldTexts.{join_is}
 use Rattle.script_text.proofs.LineImages.{image_is, image_back, lacks-image}
 use Rattle.script_text.proofs.LineOrders.{order_is, order_back, order_word, lacks-order}
 

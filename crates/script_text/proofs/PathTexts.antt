@@ -4,16 +4,16 @@ use Rattle.std.specs.List.{join_with_byte}
 use Rattle.std.specs.Str.{bytes_eq}
 use Rattle.std.proofs.lemmas.Slice.Eq.{bytes_eq-Decides}
 use Rattle.image_shape.specs.declared.window.Window.{Window}
-use Rattle.text_model.specs.Fields.{window_text, IsWindow}
+use Rattle.texts.specs.Fields.{window_text, IsWindow}
 use Rattle.script_text.specs.Fields.{path_text, IsPath}
-use Rattle.text_model.specs.Parts.{parts_of}
-use Rattle.text_model.specs.Reading.{window_of, each_of}
+use Rattle.texts.specs.Parts.{parts_of}
+use Rattle.texts.specs.Reading.{window_of, each_of}
 use Rattle.script_text.specs.Reading.{path_of}
-use Rattle.text_model.proofs.FieldNumbers.{not_true}
-use Rattle.text_model.proofs.PartsCut.{split_nonempty}
-use Rattle.text_model.proofs.PartsJoined.{lacks, AllLack, parts_of-join, lacks-join}
-use Rattle.text_model.proofs.Options.{some, some_is, choice}
-use Rattle.text_model.proofs.FieldTexts.{ReadsText, each_is, each_back, join_is, window_law, lacks-window_text}
+use Rattle.texts.proofs.FieldNumbers.{not_true}
+use Rattle.texts.proofs.PartsCut.{split_nonempty}
+use Rattle.texts.proofs.PartsJoined.{lacks, AllLack, parts_of-join, lacks-join}
+use Rattle.texts.proofs.Options.{some, some_is, choice}
+use Rattle.texts.proofs.FieldTexts.{ReadsText, each_is, each_back, join_is, window_law, lacks-window_text}
 
 lacks-windows : (c : ℕ) (ws : List Window) → c < 48 → 44 ≢ c → IsPath ws → AllLack c (map window_text ws)
 lacks-windows c [] small ne all = tt

@@ -5,7 +5,7 @@ use Rattle.std.proofs.Math.Seq.{drop-cons, take-suc}
 use Rattle.std.specs.List.{AllByRecursion}
 use Rattle.std.proofs.lemmas.List.Elements.{recursion_from_All}
 use Rattle.image_model.specs.Layout.{Layout}
-use Rattle.text_model.specs.Reading.{is_nil}
+use Rattle.texts.specs.Reading.{is_nil}
 use Rattle.script_text.specs.Line.{Order, image_line, order_line, image_text, order_text, IsScriptImage, IsOrder, IsLineOf}
 use Rattle.script_text.specs.Script.{IsScript, NoCommand, IsGood, IsGoodAt, AreGood, IsFirstBad}
 use Rattle.script_text.proofs.LineTexts.{one_value}

@@ -2,7 +2,7 @@
 use Rattle.std.proofs.Common.{◌≡◌, ℕ, suc, ◌+◌, ◌≤◌, Bool, true, false, cond, eqb, List, [], ◌∷◌, length, refl, sym, arith}
 use Rattle.std.specs.List.{onto_first}
 use Rattle.std.proofs.lemmas.Bool.{eqb-true}
-use Rattle.text_model.specs.Parts.{parts_of}
+use Rattle.texts.specs.Parts.{parts_of}
 use Rattle.script_text.specs.Script.{whole_lines, lines_of}
 
 -- ---- the next line

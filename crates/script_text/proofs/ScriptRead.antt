@@ -2,9 +2,9 @@
 use Rattle.std.proofs.Common.{◌≡◌, ℕ, ◌+◌, ◌-◌, ◌^◌, Bool, true, false, not, IsTrue, min, List, [], ◌∷◌, ◌++◌, take, drop, refl, sym, ap, subst, ◌∙◌, arith, Some}
 use Rattle.image_model.specs.Layout.{Layout}
 use Rattle.imgref.specs.Image.{vec_layout}
-use Rattle.text_model.specs.Reading.{is_nil}
-use Rattle.text_model.proofs.FieldNumbers.{not_true}
-use Rattle.text_model.proofs.Options.{nil_is}
+use Rattle.texts.specs.Reading.{is_nil}
+use Rattle.texts.proofs.FieldNumbers.{not_true}
+use Rattle.texts.proofs.Options.{nil_is}
 use Rattle.script_text.specs.Line.{Order, order_of, order_line, is_order, entry_of, IsLineOf}
 use Rattle.script_text.specs.Script.{IsScript, NoCommand, IsGood, AreGood, IsFirstBad, lines_left, IsRead, ReadsOn}
 use Rattle.script_text.specs.declared.line.Line.{Line}

@@ -2,7 +2,7 @@
 use Rattle.std.specs.Prelude.{List, ℕ, [], ◌∷◌, map}
 use Rattle.std.specs.List.{join_with_byte, AllByRecursion}
 use Rattle.image_shape.specs.declared.window.Window.{Window}
-use Rattle.text_model.specs.Fields.{window_text, IsWindow}
+use Rattle.texts.specs.Fields.{window_text, IsWindow}
 
 -- a path is its windows joined by slashes, or a dash where it has no window
 unfoldable pub path_text : List Window → List ℕ

@@ -10,7 +10,7 @@ use Rattle.image_commands.specs.declared.commands.Place.{Place}
 use Rattle.image_commands.specs.declared.commands.Command.{Command}
 use Rattle.image_commands.specs.declared.commands.Command.TheVariants.{Get, Put, Fill, Count, Same, Blit, Mosaic, Compact}
 use Rattle.script_text.specs.Fields.{path_text, IsPath}
-use Rattle.text_model.specs.Fields.{IsWord, IsPixel}
+use Rattle.texts.specs.Fields.{IsWord, IsPixel}
 use Rattle.script_text.specs.declared.line.Line.{Line}
 use Rattle.script_text.specs.declared.line.Line.TheVariants.{Image, Command as Ordered}
 

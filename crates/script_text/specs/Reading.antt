@@ -4,8 +4,8 @@ use Rattle.std.specs.Option.{option_map}
 use Rattle.std.specs.Str.{bytes_eq}
 use Rattle.image_model.specs.Layout.{Layout, layout, is_fitting}
 use Rattle.image_shape.specs.declared.window.Window.{Window}
-use Rattle.text_model.specs.Parts.{parts_of}
-use Rattle.text_model.specs.Reading.{◌>>=◌, pixel_of, each_of, first_of_parts, number_at, pixel_at, is_nil, window_of}
+use Rattle.texts.specs.Parts.{parts_of}
+use Rattle.texts.specs.Reading.{◌>>=◌, pixel_of, each_of, first_of_parts, number_at, pixel_at, is_nil, window_of}
 use Rattle.script_text.specs.Line.{Kind, a_number, a_pixel, a_place, Argument, number, pixel, place, form_of, Order, order, Entry, image_line, order_line}
 use Rattle.script_text.specs.declared.fault.LineFault.{LineFault}
 use Rattle.script_text.specs.declared.fault.LineFault.TheVariants.{Memory, Bad}

@@ -3,9 +3,8 @@ use Rattle.std.specs.Prelude.{◌≡◌, ℕ, ◌-◌, ◌^◌, ◌<◌, ◌≤�
 use Rattle.std.specs.List.{AllByRecursion, slice_index_or}
 use Rattle.image_model.specs.Layout.{Layout}
 use Rattle.imgref.specs.Image.{vec_layout}
-use Rattle.text_model.specs.Parts.{parts_of}
-use Rattle.text_model.specs.Reading.{is_nil}
-use Rattle.texts.specs.Parts.{parts_left}
+use Rattle.texts.specs.Parts.{parts_of, parts_left}
+use Rattle.texts.specs.Reading.{is_nil}
 use Rattle.script_text.specs.Line.{Order, order_of, Entry, image_line, order_line, entry_text, image_text, order_text, IsScriptImage, IsOrder, IsEntry}
 use Rattle.script_text.specs.declared.line.Line.{Line}
 use Rattle.script_text.specs.declared.line.Line.TheVariants.{Image, Command as Ordered}

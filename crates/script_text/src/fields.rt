@@ -4,7 +4,7 @@ ghost use Rattle.std.specs.Prelude.{◌≡◌};
 ghost use Rattle.script_text.specs.Line.{place_of};
 ghost use Rattle.texts.specs.Parts.{parts_left};
 ghost use Rattle.script_text.specs.Reading.{Gives, path_of, path_at, place_at};
-ghost use Rattle.text_model.specs.Reading.{pixel_of, each_of, with_front, first_of_parts};
+ghost use Rattle.texts.specs.Reading.{pixel_of, each_of, with_front, first_of_parts};
 
 use crate::fault::LineFault;
 use image_commands::{Place, Window};
@@ -63,7 +63,7 @@ fn path(alloc: Global, field: &[u8]) -> Result<Vec<Window>, LineFault>
 }
 
 /// The path that the next field denotes.
-#[tactic(auto, unfolding(text_model::specs::Reading::first_of_parts))]
+#[tactic(auto, unfolding(texts::specs::Reading::first_of_parts))]
 fn next_path(alloc: Global, fields: &mut Parts<'_>) -> Result<Vec<Window>, LineFault>
     ensures { Gives (λ p. (p.items, parts_left fields.new)) result
         (path_at (parts_left fields.old)) }

@@ -4,8 +4,7 @@ ghost use Rattle.std.specs.Prelude.{◌≡◌, IfOk, IsErrOf, codes};
 ghost use Rattle.image_model.specs.Layout.{layout};
 ghost use Rattle.imgref.specs.Image.{vec_layout};
 ghost use Rattle.script_text.specs.Line.{Entry, IsEntry, IsLineOf, is_order, entry_text, entry_of, EachTextHasOneValue};
-ghost use Rattle.text_model.specs.Parts.{parts_of};
-ghost use Rattle.texts.specs.Parts.{parts_left};
+ghost use Rattle.texts.specs.Parts.{parts_of, parts_left};
 ghost use Rattle.script_text.specs.Reading.{Gives, sized, image_in, line_in};
 
 use crate::command::read_command;

@@ -6,7 +6,7 @@ ghost use Rattle.std.specs.Fmt.{decimal};
 ghost use Rattle.std.specs.Io.{StartsWith};
 ghost use Rattle.image_model.specs.Layout.{Fits};
 ghost use Rattle.imgref.specs.Image.{vec_layout};
-ghost use Rattle.text_model.specs.Fields.{IsPixel};
+ghost use Rattle.texts.specs.Fields.{IsPixel};
 ghost use Rattle.script_text.specs.Line.{line_of, image_text, IsScriptImage};
 ghost use Rattle.script_text.specs.Script.{IsScript};
 ghost use Rattle.script_text.specs.Output.{reply_text, ended_line, images_text};
@@ -83,7 +83,7 @@ fn place_pixel(block: &mut [u8], at: usize, pixel: u8) -> usize
 }
 
 // Adds a space and the text of a pixel.
-#[tactic(auto, using(text_model::proofs::Beginnings::beginnings))]
+#[tactic(auto, using(texts::proofs::Beginnings::beginnings))]
 fn push_pixel(text: &mut Vec<u8>, pixel: u8) -> Result<(), AllocError>
     ensures text { OnOk result (text.new.items ≡ text.old.items ++ 32 ∷ decimal pixel) }
     ensures kept { StartsWith text.new.items text.old.items }
@@ -94,7 +94,7 @@ fn push_pixel(text: &mut Vec<u8>, pixel: u8) -> Result<(), AllocError>
 }
 
 // Adds the text of a number.
-#[tactic(auto, using(crate::proofs::Digits::one_digit, crate::proofs::Digits::last_digit, text_model::proofs::Beginnings::beginnings))]
+#[tactic(auto, using(crate::proofs::Digits::one_digit, crate::proofs::Digits::last_digit, texts::proofs::Beginnings::beginnings))]
 fn push_number(text: &mut Vec<u8>, number: u64) -> Result<(), AllocError>
     ensures text { OnOk result (text.new.items ≡ text.old.items ++ decimal number) }
     ensures kept { StartsWith text.new.items text.old.items }
@@ -112,7 +112,7 @@ fn push_number(text: &mut Vec<u8>, number: u64) -> Result<(), AllocError>
 /// # Errors
 ///
 /// No memory was found. What was there before stays, and a part of the line may come after it.
-#[tactic(auto, using(text_model::proofs::Beginnings::beginnings))]
+#[tactic(auto, using(texts::proofs::Beginnings::beginnings))]
 pub fn push_reply(text: &mut Vec<u8>, reply: Reply<u8>) -> Result<(), AllocError>
     ensures text { OnOk result (text.new.items ≡ text.old.items ++ ended_line (reply_text reply)) }
     ensures kept { StartsWith text.new.items text.old.items }
@@ -154,7 +154,7 @@ fn place_cells(block: &mut [u8], cells: &[u8]) -> usize
     end
 }
 
-#[tactic(auto, using(text_model::proofs::Beginnings::beginnings))]
+#[tactic(auto, using(texts::proofs::Beginnings::beginnings))]
 fn push_cells(text: &mut Vec<u8>, block: &mut [u8], cells: &[u8]) -> Result<(), AllocError>
     requires { 512 ≤ length block.old }
     ensures text { OnOk result
@@ -174,7 +174,7 @@ fn push_cells(text: &mut Vec<u8>, block: &mut [u8], cells: &[u8]) -> Result<(), 
 }
 
 // Adds what the line of an image begins with.
-#[tactic(auto, using(text_model::proofs::Beginnings::beginnings))]
+#[tactic(auto, using(texts::proofs::Beginnings::beginnings))]
 fn push_sizes(
     text: &mut Vec<u8>,
     width: usize,
@@ -193,7 +193,7 @@ fn push_sizes(
     push_number(text, stride as u64)
 }
 
-#[tactic(auto, using(text_model::proofs::Beginnings::beginnings))]
+#[tactic(auto, using(texts::proofs::Beginnings::beginnings))]
 fn push_image(text: &mut Vec<u8>, block: &mut [u8], image: &ImgVec<u8>) -> Result<(), AllocError>
     requires fits { Fits (vec_layout image.now) }
     requires room { 512 ≤ length block.old }
@@ -270,7 +270,7 @@ fn room_of(images: &[ImgVec<u8>]) -> usize {
 /// # Errors
 ///
 /// No memory was found. What was there before stays, and a part of the lines may come after it.
-#[tactic(auto, using(text_model::proofs::Beginnings::beginnings))]
+#[tactic(auto, using(texts::proofs::Beginnings::beginnings))]
 pub fn push_images(text: &mut Vec<u8>, images: &[ImgVec<u8>]) -> Result<(), AllocError>
     requires { AllFit images.now }
     ensures text { OnOk result

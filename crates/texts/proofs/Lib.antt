@@ -1,4 +1,12 @@
+pub mod Beginnings
+pub mod FieldNumbers
+pub mod FieldTexts
+pub mod FieldsEach
+pub mod LongNumbers
+pub mod Options
+pub mod PartsCut
+pub mod PartsJoined
 pub mod PartsLeft
 pub mod Positions
+pub mod ShortNumbers
 pub mod ShortPixels
-pub mod LongNumbers

@@ -6,7 +6,7 @@ use Rattle.std.specs.Str.Parse.{digits_value}
 use Rattle.std.proofs.lemmas.Bool.Decides.{nat_tests}
 use Rattle.std.proofs.lemmas.Int.Digits.{digits_value_more}
 use Rattle.std.proofs.lemmas.Str.Parse.{digits_value-take-le}
-use Rattle.text_model.specs.Reading.{digits_of}
+use Rattle.texts.specs.Reading.{digits_of}
 use Rattle.texts.specs.Digits.{IsDigit}
 
 -- text that is all digits, and text that isn't

@@ -3,7 +3,7 @@ use Rattle.std.proofs.Common.{◌≡◌, ℕ, Bool, false, not, eqb, IsTrue, Lis
 use Rattle.std.specs.Option.{is_some}
 use Rattle.std.specs.Borrow.{Bor}
 use Rattle.texts.specs.Parts.{parts_left_of}
-use Rattle.text_model.proofs.PartsCut.{split_nonempty}
+use Rattle.texts.proofs.PartsCut.{split_nonempty}
 
 pub is_done_tells : (separator : ℕ) (rest : Option (Bor (List ℕ))) (b : Bool) → is_some rest ≡ not b
     → (IsTrue b → parts_left_of separator rest ≡ []) × (parts_left_of separator rest ≡ [] → IsTrue b)

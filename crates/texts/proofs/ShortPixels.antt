@@ -7,9 +7,9 @@ use Rattle.std.proofs.lemmas.List.{length-map, length-drop, take_rest, drop-drop
 use Rattle.std.proofs.lemmas.Simd.{tops_compared, zip2_splat, zip2_splat_left, map-map, mask_l-mod, length-chunk, trailing_mask_l, run_in_chunk_le, run_in_chunk_fails}
 use Rattle.std.proofs.Math.Nat.{pow-succ', div-one, zero-div, div-div-eq-div-mul}
 use lib.Count.{count_trailing_zeros}
-use Rattle.text_model.specs.Parts.{parts_of}
-use Rattle.text_model.specs.Reading.{number_of, pixel_of, first_of_parts}
-use Rattle.text_model.proofs.ShortNumbers.{number_one, number_two, number_three, first_and_others}
+use Rattle.texts.specs.Parts.{parts_of}
+use Rattle.texts.specs.Reading.{number_of, pixel_of, first_of_parts}
+use Rattle.texts.proofs.ShortNumbers.{number_one, number_two, number_three, first_and_others}
 use Rattle.texts.specs.Digits.{is_other, IsDigit}
 use Rattle.texts.specs.declared.pixels.TheConstants.{WORTHS, LEASTS}
 

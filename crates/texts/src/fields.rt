@@ -1,7 +1,7 @@
 //! Fields: pieces of text that denote a number, a pixel or a window.
 
 ghost use Rattle.std.specs.Prelude.{◌≡◌, ◌+◌, ◌*◌, ◌^◌, ◌<◌, ◌≤◌, ℕ, List, Option, Some, None};
-ghost use Rattle.text_model.specs.Reading.{Finds, digits_of, number_of, pixel_of, window_of, first_of_parts};
+ghost use Rattle.texts.specs.Reading.{Finds, digits_of, number_of, pixel_of, window_of, first_of_parts};
 ghost use Rattle.texts.specs.Parts.{parts_left};
 
 use crate::parts::{Parts, value};
@@ -16,7 +16,7 @@ pub trait Field: Copy {
         ensures { result ≡ reading piece.now };
 
     // The value that the next part denotes.
-    #[tactic(auto, unfolding(text_model::specs::Reading::first_of_parts))]
+    #[tactic(auto, unfolding(crate::specs::Reading::first_of_parts))]
     fn next(parts: &mut Parts<'_>) -> Option<Self>
         ensures { Finds (λ x. (x, parts_left parts.new)) result
             (first_of_parts reading (parts_left parts.old)) }
@@ -31,7 +31,7 @@ pub trait Field: Copy {
 impl Field for usize {
     ghost reading = { number_of };
 
-    #[tactic(auto, unfolding(text_model::specs::Reading::number_of))]
+    #[tactic(auto, unfolding(crate::specs::Reading::number_of))]
     fn read(piece: &[u8]) -> Option<usize> {
         match piece {
             [b'0', _, ..] | [b'+', ..] => None,
@@ -40,7 +40,7 @@ impl Field for usize {
     }
 
     #[inline(always)]
-    #[tactic(auto, unfolding(text_model::specs::Reading::first_of_parts))]
+    #[tactic(auto, unfolding(crate::specs::Reading::first_of_parts))]
     fn next(parts: &mut Parts<'_>) -> Option<usize> {
         match parts.next_short() {
             Some(number) => Some(number),
@@ -51,7 +51,7 @@ impl Field for usize {
 
 // The number that the digits write, which may have zeros in front. Most numbers of a script have at
 // most three digits, and the library's `parse` asks of each byte more than that it is one.
-#[tactic(auto, unfolding(text_model::specs::Reading::digits_of))]
+#[tactic(auto, unfolding(crate::specs::Reading::digits_of))]
 fn digits(piece: &[u8]) -> Option<usize>
     ensures { result ≡ digits_of piece.now }
 {
@@ -105,13 +105,13 @@ fn more_digits(piece: &[u8]) -> Option<usize>
 impl Field for u8 {
     ghost reading = { pixel_of };
 
-    #[tactic(auto, unfolding(text_model::specs::Reading::pixel_of))]
+    #[tactic(auto, unfolding(crate::specs::Reading::pixel_of))]
     fn read(piece: &[u8]) -> Option<u8> {
         u8::try_from(usize::read(piece)?).ok()
     }
 
     #[inline(always)]
-    #[tactic(auto, unfolding(text_model::specs::Reading::first_of_parts, text_model::specs::Reading::pixel_of))]
+    #[tactic(auto, unfolding(crate::specs::Reading::first_of_parts, crate::specs::Reading::pixel_of))]
     fn next(parts: &mut Parts<'_>) -> Option<u8> {
         u8::try_from(usize::next(parts)?).ok()
     }
@@ -124,7 +124,7 @@ impl Field for Window {
     // Both calls are inlined: a window that is returned goes by memory, and is waited for there. The
     // trait's own `next` isn't inlined, so it is written again.
     #[inline(always)]
-    #[tactic(auto, unfolding(text_model::specs::Reading::window_in))]
+    #[tactic(auto, unfolding(crate::specs::Reading::window_in))]
     fn read(piece: &[u8]) -> Option<Window> {
         let mut numbers = Parts::new(piece, b',');
         let left = next(&mut numbers)?;
@@ -136,7 +136,7 @@ impl Field for Window {
     }
 
     #[inline(always)]
-    #[tactic(auto, unfolding(text_model::specs::Reading::first_of_parts))]
+    #[tactic(auto, unfolding(crate::specs::Reading::first_of_parts))]
     fn next(parts: &mut Parts<'_>) -> Option<Window> {
         Self::read(parts.next_part()?)
     }

@@ -1,5 +1,8 @@
 //! Text, read piece by piece: bytes that are split at a separator, and the numbers, pixels and
-//! windows that the parts denote.
+//! windows that the parts denote. And the words for such texts, with their laws.
+//!
+//! The contracts of the crates above cite its `specs/`, and their proofs use the laws in its
+//! `proofs/`.
 #![tactic(auto)]
 
 mod fields;

@@ -4,9 +4,8 @@ ghost use Rattle.std.specs.Prelude.{◌≡◌, ◌≤◌, ◌<◌, ◌+◌, ◌-
 ghost use Rattle.std.specs.List.{position_or_len, position_from};
 ghost use Rattle.std.specs.Io.{StartsWith};
 ghost use Rattle.std.specs.Simd.Lanes.{mask_l};
-ghost use Rattle.text_model.specs.Parts.{parts_of};
-ghost use Rattle.text_model.specs.Reading.{number_of, pixel_of, first_of_parts, each_of, with_front};
-ghost use Rattle.texts.specs.Parts.{parts_left};
+ghost use Rattle.texts.specs.Parts.{parts_of, parts_left};
+ghost use Rattle.texts.specs.Reading.{number_of, pixel_of, first_of_parts, each_of, with_front};
 
 use crate::pixels::read_pixels;
 use std::alloc::AllocError;
@@ -42,7 +41,7 @@ impl<'a> Parts<'a> {
     /// The number that the next part is the text of, where it has at most three digits. Else `None`,
     /// and no part is taken. Most numbers of a text are such: here each byte of one is looked at once.
     #[inline(always)]
-    #[tactic(auto, using(text_model::proofs::ShortNumbers::first_and_others, text_model::proofs::ShortNumbers::first_alone))]
+    #[tactic(auto, using(crate::proofs::ShortNumbers::first_and_others, crate::proofs::ShortNumbers::first_alone))]
     pub(crate) fn next_short(&mut self) -> Option<usize>
         ensures found { IfSome result (λ number.
             first_of_parts number_of (parts_left self.old) ≡ Some (number, parts_left self.new)) }
@@ -65,7 +64,7 @@ impl<'a> Parts<'a> {
     ///
     /// No memory was found. The parts are then as they were. What was in the list stays, and some of
     /// the pixels may come after it.
-    #[tactic(auto, using(text_model::proofs::Beginnings::beginnings))]
+    #[tactic(auto, using(crate::proofs::Beginnings::beginnings))]
     pub fn read_pixels(&mut self, values: &mut Vec<u8>) -> Result<(), AllocError>
         ensures read { OnOk result
             (with_front values.new.items (each_of pixel_of (parts_left self.new))
@@ -106,7 +105,7 @@ impl<'a> Parts<'a> {
 
 // The number of at most three digits that comes before the first such byte, or is all of the bytes,
 // and how many digits it has.
-#[tactic(auto, using(text_model::proofs::ShortNumbers::short_numbers))]
+#[tactic(auto, using(crate::proofs::ShortNumbers::short_numbers))]
 fn short_number(bytes: &[u8], end: u8) -> Option<(usize, usize)>
     ensures digits { IfSome result
         (λ found. position_or_len (λ b. b == end) bytes.now ≡ found.1) }

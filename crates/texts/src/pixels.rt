@@ -3,8 +3,8 @@
 ghost use Rattle.std.specs.Prelude.{◌≡◌, ℕ, ◌≤◌, ◌<◌, ◌+◌, IfOk, IfSome, length, take, drop, map, slice_index};
 ghost use Rattle.std.specs.Io.{StartsWith};
 ghost use Rattle.std.specs.Simd.Lanes.{mask_l};
-ghost use Rattle.text_model.specs.Parts.{parts_of};
-ghost use Rattle.text_model.specs.Reading.{pixel_of, each_of, with_front};
+ghost use Rattle.texts.specs.Parts.{parts_of};
+ghost use Rattle.texts.specs.Reading.{pixel_of, each_of, with_front};
 ghost use Rattle.texts.specs.Digits.{is_other, IsDigit};
 
 use std::alloc::AllocError;
@@ -90,7 +90,7 @@ fn first_pixels<const N: usize>(bytes: &[u8], separator: u8, values: &mut [u8]) 
 }
 
 /// Adds the first pixels, as far as they can be read N bytes at a time, and returns what is left.
-#[tactic(auto, using(text_model::proofs::Beginnings::beginnings))]
+#[tactic(auto, using(crate::proofs::Beginnings::beginnings))]
 pub(crate) fn read_pixels<'a, const N: usize>(
     bytes: &'a [u8],
     separator: u8,

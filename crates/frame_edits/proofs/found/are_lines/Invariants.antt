@@ -1,7 +1,6 @@
 use Rattle.std.proofs.Common.{◌≡◌, [], length}
 use Rattle.std.specs.Option.{is_some}
-use Rattle.text_model.specs.Parts.{parts_of}
-use Rattle.texts.specs.Parts.{parts_left}
+use Rattle.texts.specs.Parts.{parts_of, parts_left}
 use Rattle.frame_edits.specs.Edits.{edits}
 use Rattle.frame_edits.specs.Lists.{with_lines}
 use Rattle.frame_edits.proofs.found.are_lines.Given as goal

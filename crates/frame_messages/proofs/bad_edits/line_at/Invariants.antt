@@ -1,6 +1,5 @@
 use Rattle.std.proofs.Common.{◌≡◌, ◌-◌, length}
-use Rattle.text_model.specs.Parts.{parts_of}
-use Rattle.texts.specs.Parts.{parts_left}
+use Rattle.texts.specs.Parts.{parts_of, parts_left}
 use Rattle.frame_messages.specs.Lines.{line_of}
 use Rattle.frame_messages.proofs.bad_edits.line_at.Given as goal
 

@@ -2,8 +2,8 @@
 use Rattle.std.proofs.Common.{◌+◌, arith, refl, sym, ap, ◌∙◌, subst}
 use Rattle.std.proofs.lemmas.Grind.{common_steps}
 use Rattle.devices.specs.Device.{device_of}
-use Rattle.frame_heads.specs.Picture.{pushed, done_as}
-use Rattle.frame_heads.specs.declared.picture.Scan.{Scan}
+use Rattle.frame_texts.specs.Picture.{pushed, done_as}
+use Rattle.frame_texts.specs.declared.picture.Scan.{Scan}
 use Rattle.frame_runs.specs.Pictures.{HeadBegun, HeadIs}
 use Rattle.frame_requests.specs.declared.fault.RunFault.TheVariants.{Input}
 use Rattle.frame_runs.proofs.HandedOn.{handed_on}

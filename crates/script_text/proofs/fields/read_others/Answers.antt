@@ -1,8 +1,8 @@
 -- Each part is read in turn, or none of them.
 use Rattle.std.proofs.Common.{refl}
-use Rattle.text_model.specs.Reading.{each_of, with_front}
+use Rattle.texts.specs.Reading.{each_of, with_front}
 use Rattle.texts.specs.Parts.{parts_left}
-use Rattle.text_model.proofs.FieldsEach.{each_of-more, each_of-stops, each_of-done, first_of_parts-smaller}
+use Rattle.texts.proofs.FieldsEach.{each_of-more, each_of-stops, each_of-done, first_of_parts-smaller}
 use Rattle.script_text.proofs.fields.read_others.Goals as goal
 
 pub returns-in_default : goal.returns-in_default

@@ -1,5 +1,5 @@
 use Rattle.std.proofs.Common.{◌≡◌, length}
-use Rattle.text_model.specs.Reading.{each_of, with_front}
+use Rattle.texts.specs.Reading.{each_of, with_front}
 use Rattle.texts.specs.Parts.{parts_left}
 use Rattle.script_text.proofs.fields.read_others.Given as goal
 

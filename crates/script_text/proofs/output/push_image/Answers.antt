@@ -1,7 +1,7 @@
 use Rattle.std.proofs.Common.{◌≡◌, ◌++◌, arith}
 use Rattle.std.proofs.lemmas.List.Elements.{recursion_from_All}
 use Rattle.imgref.specs.Image.{vec_layout}
-use Rattle.text_model.specs.Fields.{IsPixel}
+use Rattle.texts.specs.Fields.{IsPixel}
 use Rattle.script_text.specs.Line.{line_of, sizes_fields}
 use Rattle.script_text.proofs.OutputImages.{image_text_is, pushed_image}
 use Rattle.script_text.proofs.output.push_image.Goals as goal

@@ -1,7 +1,7 @@
 use Rattle.std.proofs.Common.{map, arith, ◌∙◌}
 use Rattle.std.proofs.lemmas.Grind.{common_steps}
 use Rattle.std.proofs.lemmas.List.{take_all}
-use Rattle.text_model.proofs.Beginnings.{starts_before}
+use Rattle.texts.proofs.Beginnings.{starts_before}
 use Rattle.image_model.specs.Layout.{Fits}
 use Rattle.imgref.specs.Image.{vec_layout}
 use Rattle.script_text.specs.Line.{IsScriptImage}

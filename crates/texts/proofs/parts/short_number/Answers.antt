@@ -1,5 +1,5 @@
 use Rattle.std.proofs.Common.{arith}
-use Rattle.text_model.proofs.ShortNumbers.{number_three}
+use Rattle.texts.proofs.ShortNumbers.{number_three}
 use Rattle.texts.proofs.parts.short_number.Goals as goal
 
 pub returns-then-bytes-eq3-clause-number : goal.returns-then-bytes-eq3-clause-number

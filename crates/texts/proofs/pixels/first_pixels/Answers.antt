@@ -2,9 +2,9 @@ use Rattle.std.proofs.Common.{◌+◌, take, drop, length-set, refl, ◌∙◌, 
 use Rattle.std.specs.Simd.Lanes.{mask_l, chunk}
 use lib.Count.{count_trailing_zeros}
 use Rattle.std.proofs.lemmas.List.{take_rest, take_more_set}
-use Rattle.text_model.specs.Parts.{parts_of}
-use Rattle.text_model.specs.Reading.{pixel_of}
-use Rattle.text_model.proofs.FieldsEach.{with_nothing, each_of-more}
+use Rattle.texts.specs.Parts.{parts_of}
+use Rattle.texts.specs.Reading.{pixel_of}
+use Rattle.texts.proofs.FieldsEach.{with_nothing, each_of-more}
 use Rattle.texts.specs.Digits.{is_other}
 use Rattle.texts.proofs.ShortPixels.{end_within, digits_from, later_mask, first_pixel}
 use Rattle.texts.proofs.pixels.first_pixels.Goals as goal

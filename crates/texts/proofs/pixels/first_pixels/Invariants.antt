@@ -1,8 +1,8 @@
 -- The mask is that of the lanes from here on, and what was read comes before what is left.
 use Rattle.std.proofs.Common.{◌≡◌, ◌≤◌, ◌+◌, ◌-◌, ◌*◌, length, take, drop, map}
 use Rattle.std.specs.Simd.Lanes.{mask_l, chunk}
-use Rattle.text_model.specs.Parts.{parts_of}
-use Rattle.text_model.specs.Reading.{pixel_of, each_of, with_front}
+use Rattle.texts.specs.Parts.{parts_of}
+use Rattle.texts.specs.Reading.{pixel_of, each_of, with_front}
 use Rattle.texts.specs.Digits.{is_other}
 use Rattle.texts.proofs.pixels.first_pixels.Given as goal
 

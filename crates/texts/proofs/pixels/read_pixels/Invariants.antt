@@ -1,8 +1,8 @@
 -- What was read comes before what is left.
 use Rattle.std.proofs.Common.{◌≡◌, length}
 use Rattle.std.specs.Io.{StartsWith}
-use Rattle.text_model.specs.Parts.{parts_of}
-use Rattle.text_model.specs.Reading.{pixel_of, each_of, with_front}
+use Rattle.texts.specs.Parts.{parts_of}
+use Rattle.texts.specs.Reading.{pixel_of, each_of, with_front}
 use Rattle.texts.proofs.pixels.read_pixels.Given as goal
 
 abbrev pub invariant-loop-rest : goal.invariant-loop-rest

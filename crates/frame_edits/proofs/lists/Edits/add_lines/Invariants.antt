@@ -1,6 +1,5 @@
 use Rattle.std.proofs.Common.{◌≡◌, length}
-use Rattle.text_model.specs.Parts.{parts_of}
-use Rattle.texts.specs.Parts.{parts_left}
+use Rattle.texts.specs.Parts.{parts_of, parts_left}
 use Rattle.frame_edits.specs.Lists.{NeedsPlace, with_lines, plain}
 use Rattle.frame_edits.proofs.EditsEach.{Begins}
 use Rattle.frame_edits.proofs.lists.Edits.add_lines.Given as goal

@@ -1,6 +1,6 @@
 -- Lines for which there was no room: each is an edit, or one is bad.
 use Rattle.std.proofs.Common.{sym, ap, ◌∙◌}
-use Rattle.text_model.specs.Parts.{parts_of}
+use Rattle.texts.specs.Parts.{parts_of}
 use Rattle.frame_edits.specs.Edits.{Edits}
 use Rattle.frame_edits.specs.Lists.{plain}
 use Rattle.frame_edits.proofs.EditLines.{lines_good}

@@ -1,5 +1,5 @@
 use Rattle.std.proofs.Common.{sym}
-use Rattle.text_model.proofs.PartsCut.{slice_split-at, slice_split-whole}
+use Rattle.texts.proofs.PartsCut.{slice_split-at, slice_split-whole}
 use Rattle.texts.proofs.parts.Parts.next_part.Goals as goal
 
 pub returns-in-Some : goal.returns-in-Some

@@ -1,6 +1,6 @@
 use Rattle.std.proofs.Common.{arith}
-use Rattle.text_model.specs.Reading.{number_of}
-use Rattle.text_model.proofs.ShortNumbers.{first_and_others, first_alone}
+use Rattle.texts.specs.Reading.{number_of}
+use Rattle.texts.proofs.ShortNumbers.{first_and_others, first_alone}
 use Rattle.texts.proofs.parts.Parts.next_short.Goals as goal
 
 pub returns-then-digits-rest-clause-found : goal.returns-then-digits-rest-clause-found

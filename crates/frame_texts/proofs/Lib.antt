@@ -1,0 +1,10 @@
+pub mod BothBoxes
+pub mod BoxLines
+pub mod BoxSizes
+pub mod HeadLaws
+pub mod HeadTexts
+pub mod LineEnds
+pub mod LineWords
+pub mod Ties
+pub mod Times
+pub mod Touched

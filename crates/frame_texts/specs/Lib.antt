@@ -1,0 +1,15 @@
+pub mod Boxes
+pub mod Counts
+pub mod Digits
+pub mod Format
+pub mod Heads
+pub mod Lines
+pub mod Names
+pub mod Pam
+pub mod PamWords
+pub mod Picture
+pub mod Pixels
+pub mod Ranges
+pub mod Rates
+pub mod Tracks
+pub mod VideoLine

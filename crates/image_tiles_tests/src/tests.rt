@@ -1,6 +1,0 @@
-//! One file for each subject.
-
-mod bands;
-mod fixtures;
-mod tiles;
-mod tilings;

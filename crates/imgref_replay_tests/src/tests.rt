@@ -1,7 +1,0 @@
-//! One file for each subject.
-
-mod commands;
-mod fixtures;
-mod layouts;
-mod nested;
-mod paths;
