@@ -8,12 +8,7 @@ ghost use Rattle.texts.specs.Parts.{parts_left};
 use std::alloc::{AllocError, Global};
 use texts::Parts;
 
-fn push_size(
-    alloc: Global,
-    text: &mut Vec<u8>,
-    letter: u8,
-    number: usize,
-) -> Result<(), AllocError>
+fn push_size(alloc: Global, text: &mut Vec<u8>, letter: u8, number: usize) -> Result<(), AllocError>
     ensures { OnOk result (text.new.items ≡ text.old.items ++ 32 ∷ letter ∷ decimal number) }
 {
     let digits = number.to_string(alloc)?;
