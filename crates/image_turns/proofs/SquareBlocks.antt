@@ -1,5 +1,5 @@
 -- Squares of which blocks of 16 by 16 pixels change places with those across the diagonal, pair by pair.
-use Rattle.std.proofs.Common.{◌≡◌, ℕ, ◌+◌, ◌*◌, ◌/◌, ◌<◌, ◌≤◌, Bool, true, false, List, Option, sym, ap, ◌∙◌, arith, nat_lt, if◌then◌else◌, ◌||◌, ◌&&◌, max, min}
+use Rattle.std.proofs.Common.{◌≡◌, ℕ, ◌+◌, ◌*◌, ◌/◌, ◌%◌, ◌<◌, ◌≤◌, Bool, true, false, List, Option, sym, ap, ◌∙◌, arith, nat_lt, if◌then◌else◌, ◌||◌, ◌&&◌, max, min}
 use Rattle.std.proofs.lemmas.Bool.{cond-true}
 use Rattle.std.proofs.lemmas.Bool.Decides.{nat_tests}
 use Rattle.image_model.specs.Layout.{pixel}
@@ -11,9 +11,9 @@ use Rattle.image_model.proofs.Grids.{at_place, pixel_at, same_grids}
 use Rattle.image_model.proofs.Places.{outside_trans}
 use Rattle.image_shape.specs.Shape.{shaped, shaped_grid}
 use Rattle.image_shape.specs.declared.shape.Shape.{Shape}
-use Rattle.image_turns.specs.Blocks.{read_over, is_across, crossed_at, corner_crossed, is_in_strip, strip_crossed}
+use Rattle.image_turns.specs.Blocks.{read_over, is_across, pixels_crossed_at, corner_crossed, is_in_strip, strip_crossed}
 use Rattle.image_writes.specs.Written.{Becomes}
-use Rattle.image_turns.proofs.PlacesCrossed.{PlacesCrossed, crossed_pixel, no_place_crossed, same_places, blocks_crossed}
+use Rattle.image_turns.proofs.PlacesCrossed.{PlacesCrossed, no_place_crossed, same_places, blocks_crossed}
 
 -- rows that are read in their order
 pub read_plain : {T : Type 0} (w h : ℕ) (f : ℕ → ℕ → Option T) → read_over false (grid w h f) ≡ grid w h f
@@ -36,7 +36,7 @@ block_done from upto x y u v = is_done from upto x y (max (u / 16) (v / 16)) (mi
 
 -- these pairs of blocks have changed places, and the padding stays
 abbrev pub BlocksCrossed : {T : Type 0} → ℕ → ℕ → ℕ → ℕ → List T → List T → Shape → Type 0
-BlocksCrossed from upto x y old new s = PlacesCrossed (block_done from upto x y) old new s
+BlocksCrossed from upto x y old new s = PlacesCrossed 1 (block_done from upto x y) old new s
 
 -- the other points of the loops, for a column that is not before the row
 at_row_start : (from upto y a b : ℕ) → b ≤ a → is_done from upto 0 y a b ≡ is_done from upto (max from y) y a b
@@ -82,14 +82,14 @@ not_pair x y u v miss same = grind (arith, nat_tests, miss, same)
 module _ {T : Type 0} (s : Shape) where
   -- no pair yet
   pub none_crossed : (cells : List T) → BlocksCrossed 0 0 0 0 cells cells s
-  none_crossed cells = no_place_crossed s (block_done 0 0 0 0) (λ u v. none_done (max (u / 16) (v / 16)) (min (u / 16) (v / 16))) cells
+  none_crossed cells = no_place_crossed 1 (omega arith) s (block_done 0 0 0 0) (λ u v. none_done (max (u / 16) (v / 16)) (min (u / 16) (v / 16))) cells
 
   module _ (old now : List T) (from upto x y : ℕ) (so : BlocksCrossed from upto x y old now s) where
     -- the same pairs, said by another point of the loops
     same_pairs : (j k m n : ℕ) → ((a b : ℕ) → b ≤ a → is_done from upto x y a b ≡ is_done j k m n a b) → BlocksCrossed j k m n old now s
     same_pairs j k m n alike =
-        same_places s (block_done from upto x y) old now so (block_done j k m n)
-        (λ u v column line. alike (max (u / 16) (v / 16)) (min (u / 16) (v / 16)) (min_max (u / 16) (v / 16)))
+        same_places 1 (omega arith) s (block_done from upto x y) old now so (block_done j k m n)
+        (λ u v column line. alike (max (u / 1 / 16) (v / 16)) (min (u / 1 / 16) (v / 16)) (min_max (u / 1 / 16) (v / 16)))
 
     -- a strip of blocks begins after those before it
     pub strip_begins : (right : ℕ) → from ≡ upto → x ≡ 0 → y ≡ 0 → BlocksCrossed from right 0 0 old now s
@@ -108,13 +108,13 @@ module _ {T : Type 0} (s : Shape) where
     strip_done high later = same_pairs upto upto 0 0 (λ a b below. at_strip_end from upto x y a b below high later)
 
     -- one pair more
-    module _ (square : s.width ≡ s.height) (right : y ≤ x) (after : from ≤ x) (here : x < upto) (new : List T) (made : Becomes s now new (crossed_at (16 * x) (16 * y) 16 16 (shaped_grid now s))) where
+    module _ (square : s.width ≡ s.height) (right : y ≤ x) (after : from ≤ x) (here : x < upto) (new : List T) (made : Becomes s now new (pixels_crossed_at 1 (16 * x) (16 * y) 16 16 (shaped_grid now s))) where
       same_done : (u v : ℕ) → block_done from upto x y u v ≡ block_done from upto x y v u
       same_done u v = (λ i. is_done from upto x y (max_comm (u / 16) (v / 16) i) (min_comm (u / 16) (v / 16) i))
 
       pub one_pair_more : BlocksCrossed from upto (x + 1) y old new s
       one_pair_more =
-          blocks_crossed s (block_done from upto x y) old now so (block_done from upto (x + 1) y) square (16 * x) (16 * y) 16 16 new made.grid made.outside
+          blocks_crossed 1 (omega arith) s (block_done from upto x y) old now so (block_done from upto (x + 1) y) (omega (arith, square)) (16 * x) (16 * y) 16 16 new made
           (λ u v hit. let pair = pair_of x y u v right hit in sym (same_done u v) ∙ (λ i. is_done from upto x y (pair.0 i) (pair.1 i)) ∙ this_before from upto x y after)
           (λ u v hit. let pair = pair_of x y u v right hit in (λ i. is_done from upto (x + 1) y (pair.0 i) (pair.1 i)) ∙ this_after from upto x y here)
           (λ u v miss. other_same from upto x y (max (u / 16) (v / 16)) (min (u / 16) (v / 16)) (not_pair x y u v miss))
@@ -137,9 +137,13 @@ module _ {T : Type 0} (s : Shape) (old now : List T) where
   all_pairs n so =
       same_grids s.width s.height (pixel (shaped now s)) (λ u v. if nat_lt u (16 * n) && nat_lt v (16 * n) then (shaped_grid old s).pixel v u else (shaped_grid old s).pixel u v)
       (λ u v column line.
+      let row : u / 1 ≡ u = omega arith in
+      let none : u % 1 ≡ 0 = omega arith in
+      let cell : v * 1 + u % 1 ≡ v = omega (arith, none) in
       sym (pixel_at (shaped now s) u v column line)
       ∙ so.each u v column line
-      ∙ ap (λ b. crossed_pixel b (shaped_grid old s) u v) (corner_done n u v))
+      ∙ (λ i. if block_done n n 0 0 (row i) v then (shaped_grid old s).pixel (cell i) (row i) else (shaped_grid old s).pixel u v)
+      ∙ ap (λ b. if b then (shaped_grid old s).pixel v u else (shaped_grid old s).pixel u v) (corner_done n u v))
 
 -- ---- strips of columns after a corner
 

@@ -28,15 +28,11 @@ read_over back g = grid g.width g.height (λ x y. g.pixel x (line_read back g.he
 abbrev pub is_across : ℕ → ℕ → ℕ → ℕ → ℕ → ℕ → Bool
 is_across left top width height x y = covers left top width height x y || covers top left height width x y
 
--- the places of both blocks have changed places with those across the diagonal
-abbrev pub crossed_at : {T : Type 0} → ℕ → ℕ → ℕ → ℕ → Grid T → Grid T
-crossed_at left top width height g = grid g.width g.height (λ x y. if is_across left top width height x y then g.pixel y x else g.pixel x y)
-
--- the pixels of both blocks have, where each has so many cells next to one another in a row
+-- the pixels of both blocks have changed places with those across the diagonal, where each has so many cells next to one another in a row
 abbrev pub pixels_crossed_at : {T : Type 0} → ℕ → ℕ → ℕ → ℕ → ℕ → Grid T → Grid T
 pixels_crossed_at size left top width height g = grid g.width g.height (λ x y. if is_across left top width height (x / size) y then g.pixel (y * size + x % size) (x / size) else g.pixel x y)
 
--- so have the places of the first so many columns and rows
+-- so have the pixels of one cell of the first so many columns and rows
 abbrev pub corner_crossed : {T : Type 0} → ℕ → Grid T → Grid T
 corner_crossed upto g = grid g.width g.height (λ x y. if nat_lt x upto && nat_lt y upto then g.pixel y x else g.pixel x y)
 

@@ -1,5 +1,4 @@
 pub mod Blocks
 pub mod Oriented
-pub mod Quarters
 pub mod Sizes
 pub mod Turned

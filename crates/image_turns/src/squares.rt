@@ -5,7 +5,7 @@ ghost use Rattle.image_model.specs.Grid.{patch, view};
 ghost use Rattle.image_model.specs.Layout.{Fits, SameOutside};
 ghost use Rattle.image_model.specs.Turns.{transposed};
 ghost use Rattle.image_shape.specs.Shape.{shape_width, shape_height, shaped_grid, shaped};
-ghost use Rattle.image_turns.specs.Blocks.{block_grid, crossed_at, corner_crossed, strip_crossed};
+ghost use Rattle.image_turns.specs.Blocks.{block_grid, pixels_crossed_at, corner_crossed, strip_crossed};
 ghost use Rattle.image_turns.specs.Turned.{turned, turned_width};
 ghost use Rattle.image_writes.specs.Written.{Becomes};
 ghost use Rattle.image_turns.specs.Sizes.{IsSquare};
@@ -86,7 +86,7 @@ fn cross_at<T: Copy>(cells: &mut [T], shape: Shape, left: usize, top: usize)
     requires column { left + 16 ≤ shape_width shape }
     requires line { top + 16 ≤ shape_width shape }
     ensures { Becomes shape cells.old cells.new
-        (crossed_at left top 16 16 (shaped_grid cells.old shape)) }
+        (pixels_crossed_at 1 left top 16 16 (shaped_grid cells.old shape)) }
 {
     let mut upper = [cells[0]; 256];
     let mut lower = [cells[0]; 256];

@@ -7,7 +7,8 @@ use Rattle.image_model.proofs.Places.{outside_trans}
 use Rattle.image_shape.specs.Shape.{shaped, shaped_grid}
 use Rattle.image_turns.specs.Oriented.{oriented}
 use Rattle.image_turns.specs.declared.pixel_turning.Orientation.TheVariants.{Transposed}
-use Rattle.image_turns.proofs.BlockPairs.{pixels_inside, both_pixels_crossed}
+use Rattle.image_turns.proofs.BlockPairs.{pixels_inside}
+use Rattle.image_turns.proofs.PlacesCrossed.{both_pixels_crossed}
 use Rattle.image_turns.proofs.block_pairs.cross_pair.Goals as goal
 
 pub copy_block-upper_shape-requires-clause-inside : goal.copy_block-upper_shape-requires-clause-inside

@@ -1,10 +1,9 @@
 -- One pair of blocks more, and all pairs.
 use Rattle.std.proofs.Common.{◌≡◌, ◌+◌, ◌≤◌, ◌⊎◌, refl, subst, arith, inl, inr}
-use Rattle.std.proofs.lemmas.Grind.{common_steps}
 use Rattle.image_shape.specs.Shape.{shaped_grid}
 use Rattle.image_turns.specs.Blocks.{pixels_crossed_at}
 use Rattle.image_writes.specs.Written.{Becomes}
-use Rattle.image_turns.proofs.BlockPairs.{one_pair_more, all_pairs}
+use Rattle.image_turns.proofs.BlockPairs.{one_pair_more, all_pairs, row_begins, row_crossed}
 use Rattle.image_turns.proofs.block_pairs.cross_pairs.Goals as goal
 
 pub loop-left-preserved : goal.loop-left-preserved
@@ -34,7 +33,16 @@ returns g c =
     all_pairs g.row.N c.requires.image.some c.args.shape c.requires.image.square c.args.cells.now c.loop-top.cells c.loop-top.top c.loop-top.top 0 c.loop-top.invariant.0 refl refl (omega (arith, c.loop-top-test.false, c.height-side.ensures.value))
 
 pub loop-top-preserved : goal.loop-top-preserved
-loop-top-preserved g c = grind (arith, common_steps)
+loop-top-preserved g c =
+    let top = c.loop-top.top in
+    let inv = c.loop-left.invariant in (
+      row_crossed g.row.N c.requires.image.some c.args.shape c.requires.image.square c.args.cells.now c.loop-left.cells top (top + c.min-height.result) c.loop-left.left inv.0 (omega (arith, c.loop-left-test.false, c.height-side.ensures.value)) (omega arith),
+      omega (arith, c.min-height.ensures, c.loop-top-test.true, c.height-side.ensures.value),
+      inv.3,
+    )
 
 pub loop-left-init : goal.loop-left-init
-loop-left-init g c = grind (arith, common_steps)
+loop-left-init g c =
+    let top = c.loop-top.top in
+    let inv = c.loop-top.invariant in
+    (row_begins g.row.N c.requires.image.some c.args.shape c.requires.image.square c.args.cells.now c.loop-top.cells top top 0 inv.0 (top + c.min-height.result) refl refl, inl refl, inv.1, inv.2)
