@@ -296,8 +296,8 @@ pub fn video_covers_nothing(format: Format, edit: Edit) -> bool
     changes_nothing(unit_of_video(format), format.width, format.height, edit)
 }
 
-// The unit of a picture.
-fn unit_of_picture() -> Unit
+/// The unit of a picture, whose pixels have their colours themselves.
+pub fn unit_of_picture() -> Unit
     ensures unit { result ≡ one_pixel }
     ensures sound { IsUnit result }
 {

@@ -15,7 +15,7 @@ mod words;
 pub use box_covers::{BoxStyle, cover_of, first_frame, read_boxes};
 pub use covers::{
     Unit, frames_of, picture_covers_nothing, picture_window, settle_edit, turns_over,
-    unit_of_video, video_covers_nothing, video_window,
+    unit_of_picture, unit_of_video, video_covers_nothing, video_window,
 };
 pub use framing::Framing;
 pub use holds::{held_at, read_held};

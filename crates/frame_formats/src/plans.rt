@@ -15,9 +15,9 @@ ghost use Rattle.frame_formats.specs.Recipe.{recipe, video_recipe, picture_recip
 
 use crate::framing::resize_of;
 use crate::layers::{picture_layers, picture_pixel, planes_of, targets_of, video_layers};
-use crate::settling::{settle_all, unit_of_picture};
+use crate::settling::settle_all;
 use crate::suits::{unsuited_in_picture, unsuited_in_video};
-use frame_edits::{Edit, Framing, unit_of_video};
+use frame_edits::{Edit, Framing, unit_of_picture, unit_of_video};
 use frame_texts::{Format, Picture, ended_line, picture_head, read_rate, resized_line};
 use image_planes::{
     Plane, Scratch, Target, change_planes, planes_len, resize_planes, scratch_len, targets_len,

@@ -1,7 +1,7 @@
 //! The edits as steps of a frame of a size.
 
 ghost use Rattle.std.specs.Prelude.{◌≡◌, ◌≢◌, IfOk, IfErr, Some, None};
-ghost use Rattle.frame_edits.specs.Covers.{IsUnit, one_pixel};
+ghost use Rattle.frame_edits.specs.Covers.{IsUnit};
 ghost use Rattle.frame_formats.specs.Plan.{Tells};
 ghost use Rattle.frame_formats.specs.Steps.{all_some, first_made, step_in};
 
@@ -10,18 +10,6 @@ use frame_edits::{Edit, Paint, Unit, frames_of, settle_edit};
 use frame_texts::Rate;
 use image_planes::Step;
 use std::alloc::Global;
-
-/// The unit of a picture.
-pub(crate) fn unit_of_picture() -> Unit
-    ensures unit { result ≡ one_pixel }
-    ensures sound { IsUnit result }
-{
-    Unit {
-        across: 1,
-        down: 1,
-        interlaced: false,
-    }
-}
 
 /// An edit as a step of a frame of this size, where it has frames.
 #[tactic(auto, using(crate::proofs::StepsEach::edit_settled, crate::proofs::StepsEach::edit_stops))]

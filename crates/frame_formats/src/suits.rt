@@ -11,8 +11,8 @@ use crate::framing::resize_of;
 use crate::layers::{
     Layer, change_on, picture_layers, picture_pixel, size_on, target_on, video_layers,
 };
-use crate::settling::{step_of, unit_of_picture};
-use frame_edits::{Edit, Framing, Unit, Unsuited, unit_of_video};
+use crate::settling::step_of;
+use frame_edits::{Edit, Framing, Unit, Unsuited, unit_of_picture, unit_of_video};
 use frame_texts::{Format, Picture, Pixel, Rate};
 use image_planes::is_inside;
 

@@ -48,9 +48,6 @@ pub record Standing (n : ℕ) (spans rest now : List Span) : Type 0 where
   pub all : AllByRecursion (λ s. s.first < n) taken
   pub is : now ≡ filter (λ s. nat_le n s.end) taken
 
-pub none_standing : (spans : List Span) → Standing 0 spans spans []
-none_standing spans = record { taken = []; split = refl; all = tt; is = refl }
-
 all_append : (P : Span → Type 0) (xs ys : List Span) → AllByRecursion P xs → AllByRecursion P ys → AllByRecursion P (xs ++ ys)
 all_append P [] ys all others = others
 all_append P (x ∷ xs) ys all others = (all.0, all_append P xs ys all.1 others)

@@ -6,11 +6,11 @@ use Rattle.std.specs.Ordering.{nat_cmp}
 use Rattle.std.specs.Fmt.{decimal}
 use Rattle.std.specs.Option.{option_map}
 use Rattle.image_commands.specs.declared.changes.Change.{Change}
-use Rattle.image_commands.specs.declared.changes.Change.TheVariants.{Fill, Mosaic, Mean, Blur, Move, Flip}
+use Rattle.image_commands.specs.declared.changes.Change.TheVariants.{Fill, Flip}
 use Rattle.image_shape.specs.declared.window.Window.{Window}
 use Rattle.frame_edits.specs.declared.framing.Framing.{Framing}
 use Rattle.frame_edits.specs.declared.paint.Paint.{Paint}
-use Rattle.frame_edits.specs.declared.paint.Paint.TheVariants.{Grey, Black, Colour, Around}
+use Rattle.frame_edits.specs.declared.paint.Paint.TheVariants.{Around}
 use Rattle.frame_edits.specs.declared.words.Edit.{Edit}
 use Rattle.frame_edits.specs.declared.words.Scope.{Scope}
 use Rattle.frame_edits.specs.declared.words.Scope.TheVariants.{Exact, Boxed}
@@ -28,31 +28,17 @@ abbrev pub is_boxed : Scope → Bool
 is_boxed Exact = false
 is_boxed (Boxed margin) = true
 
-abbrev pub goes_around : Paint → Bool
-goes_around (Grey value) = false
-goes_around Black = false
-goes_around (Colour red green blue) = false
-goes_around (Around value margin) = true
-
 abbrev pub is_cover : Change Paint → Bool
-is_cover (Fill w paint) = goes_around paint
-is_cover (Mosaic w wide high) = false
-is_cover (Mean w wide high bytes) = false
-is_cover (Blur w across down bytes) = false
-is_cover (Move w left top) = false
-is_cover (Flip axes) = false
+is_cover (Fill w (Around value margin)) = true
+is_cover _ = false
 
 -- a box of a list, or a cover
 abbrev pub is_drawn : Edit → Bool
 is_drawn e = is_boxed e.scope || is_cover e.change
 
 abbrev pub flips : Change Paint → Bool
-flips (Fill w paint) = false
-flips (Mosaic w wide high) = false
-flips (Mean w wide high bytes) = false
-flips (Blur w across down bytes) = false
-flips (Move w left top) = false
 flips (Flip axes) = true
+flips _ = false
 
 abbrev pub is_flip : Edit → Bool
 is_flip e = flips e.change
@@ -91,12 +77,8 @@ has_frame n s = nat_le s.first n && nat_lt n s.end
 
 -- a rectangle once a frame of this size is changed
 abbrev pub moved_by : Change Paint → ℕ × ℕ → Window → Window
-moved_by (Fill v paint) size w = w
-moved_by (Mosaic v wide high) size w = w
-moved_by (Mean v wide high bytes) size w = w
-moved_by (Blur v across down bytes) size w = w
-moved_by (Move v left top) size w = w
 moved_by (Flip axes) size w = flipped_in axes size w
+moved_by change size w = w
 
 -- the edit comes after the one of this number, and is for the frame
 abbrev pub comes_after : ℕ → ℕ → Span → Bool

@@ -18,8 +18,7 @@ use std::io::Write;
 fn name_of(edit: &Edit) -> &'static str {
     match edit.change {
         Change::Fill { value, .. } => match value {
-            Paint::Around { .. } => "cover",
-            Paint::Black => "cover",
+            Paint::Around { .. } | Paint::Black => "cover",
             Paint::Grey(_) | Paint::Colour { .. } => "fill",
         },
         Change::Mosaic { .. } => "mosaic",

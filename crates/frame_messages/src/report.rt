@@ -43,10 +43,13 @@ fn is_box(edit: &Edit) -> bool
 fn is_cover(change: Change<Paint>) -> bool
     ensures { result ≡ is_cover change }
 {
-    match change {
-        Change::Fill { value, .. } => matches!(value, Paint::Around { .. }),
-        _ => false,
-    }
+    matches!(
+        change,
+        Change::Fill {
+            value: Paint::Around { .. },
+            ..
+        }
+    )
 }
 
 // Whether an edit is a box of a list, or a cover.

@@ -3,7 +3,7 @@ use Rattle.std.specs.Prelude.{ℕ, ◌+◌, ◌&&◌, ◌||◌, Bool, true, fals
 use Rattle.texts.specs.Reading.{is_nil}
 use Rattle.image_commands.specs.Changes.{fills, spreads}
 use Rattle.image_commands.specs.declared.changes.Change.{Change}
-use Rattle.image_commands.specs.declared.changes.Change.TheVariants.{Fill, Mosaic, Mean, Blur, Move, Flip}
+use Rattle.image_commands.specs.declared.changes.Change.TheVariants.{Mosaic, Mean, Blur, Move}
 use Rattle.frame_edits.specs.Order.{may_meet}
 use Rattle.frame_edits.specs.declared.paint.Paint.{Paint}
 use Rattle.frame_edits.specs.declared.words.Edit.{Edit}
@@ -25,12 +25,10 @@ is_move _ = false
 
 -- means, a blur or a move
 abbrev pub mixes : Change Paint → Bool
-mixes (Fill w paint) = false
-mixes (Mosaic w wide high) = false
 mixes (Mean w wide high bytes) = true
 mixes (Blur w across down bytes) = true
 mixes (Move w left top) = true
-mixes (Flip axes) = false
+mixes _ = false
 
 -- what comes too early for covers and fills, for mosaics and for means
 abbrev pub is_early : Hiding → Change Paint → Bool

@@ -1,7 +1,7 @@
 -- What kind of change one is.
 use Rattle.std.specs.Prelude.{Bool, true, false}
 use Rattle.image_commands.specs.declared.changes.Change.{Change}
-use Rattle.image_commands.specs.declared.changes.Change.TheVariants.{Fill, Mosaic, Mean, Blur, Move, Flip}
+use Rattle.image_commands.specs.declared.changes.Change.TheVariants.{Fill, Blur, Flip}
 
 -- whether a change is a blur
 abbrev pub is_blur : {V : Type 0} → Change V → Bool
@@ -11,16 +11,9 @@ is_blur _ = false
 -- a change that may show a pixel, or something of it, at another place
 abbrev pub spreads : {V : Type 0} → Change V → Bool
 spreads (Fill w value) = false
-spreads (Mosaic w tile_width tile_height) = true
-spreads (Mean w tile_width tile_height bytes) = true
-spreads (Blur w across down bytes) = true
-spreads (Move w left top) = true
 spreads (Flip axes) = false
+spreads _ = true
 
 abbrev pub fills : {V : Type 0} → Change V → Bool
 fills (Fill w value) = true
-fills (Mosaic w tile_width tile_height) = false
-fills (Mean w tile_width tile_height bytes) = false
-fills (Blur w across down bytes) = false
-fills (Move w left top) = false
-fills (Flip axes) = false
+fills _ = false

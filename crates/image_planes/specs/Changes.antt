@@ -1,10 +1,10 @@
 -- What changes make of the grid of an image, and of a frame: planes one after the other.
-use Rattle.std.specs.Prelude.{ℕ, ◌+◌, ◌*◌, ◌%◌, ◌==◌, ◌<◌, ◌^◌, Bool, true, ◌&&◌, nat_lt, nat_le, if◌then◌else◌, Option, Some, None, List, [], ◌∷◌, ◌++◌, take, drop}
+use Rattle.std.specs.Prelude.{ℕ, ◌+◌, ◌*◌, ◌%◌, ◌==◌, ◌^◌, Bool, true, ◌&&◌, nat_lt, nat_le, if◌then◌else◌, Option, Some, None, List, [], ◌∷◌, ◌++◌, take, drop}
 use Rattle.image_model.specs.Layout.{layout}
 use Rattle.image_model.specs.Grid.{Grid, grid_of, patch}
 use Rattle.image_model.specs.Flips.{flipped}
 use Rattle.image_model.specs.Rows.{grid_pixels}
-use Rattle.image_model.specs.Windows.{IsInside, is_inside, window, window_view}
+use Rattle.image_model.specs.Windows.{is_inside, window, window_view}
 use Rattle.image_model.specs.Windows as model
 use Rattle.image_shape.specs.Window.{as_window}
 use Rattle.image_means.specs.Blur.{blurred}
@@ -45,16 +45,7 @@ changed size (Blur w across down bytes) g = patch g (size * w.left) w.top (blurr
 changed size (Move w left top) g = patch g (size * left) top (window_view g (in_bytes size w))
 changed size (Flip axes) g = flipped_by size axes g
 
--- a change is valid for so many pixels: its windows are inside, its tiles have a place, and a box reaches fewer than 2 ^ 15 pixels on each side
-abbrev pub IsChangeOf : ℕ → ℕ → Change (List ℕ) → Type 0
-IsChangeOf width height (Fill w value) = IsInside width height (as_window w)
-IsChangeOf width height (Mosaic w tile_width tile_height) = (0 < tile_width) × (0 < tile_height) × IsInside width height (as_window w)
-IsChangeOf width height (Mean w tile_width tile_height bytes) = (0 < tile_width) × (0 < tile_height) × IsInside width height (as_window w)
-IsChangeOf width height (Blur w across down bytes) = (across < 2 ^ 15) × (down < 2 ^ 15) × IsInside width height (as_window w)
-IsChangeOf width height (Move w left top) = IsInside width height (as_window w) × IsInside width height (window left top w.width w.height)
-IsChangeOf width height (Flip axes) = Unit {0}
-
--- the same as a test
+-- whether a change is valid for so many pixels: its windows are inside, its tiles have a place, and a box reaches fewer than 2 ^ 15 pixels on each side
 abbrev pub is_change_of : ℕ → ℕ → Change (List ℕ) → Bool
 is_change_of width height (Fill w value) = is_inside width height (as_window w)
 is_change_of width height (Mosaic w tile_width tile_height) = nat_lt 0 tile_width && (nat_lt 0 tile_height && is_inside width height (as_window w))

@@ -7,7 +7,7 @@ use Rattle.image_commands.specs.Changes.{fills, spreads}
 use Rattle.image_commands.specs.declared.changes.Axes.TheVariants.{Rows, Columns, Both}
 use Rattle.image_planes.specs.declared.change.Step.{Step}
 use Rattle.image_commands.specs.declared.changes.Change.{Change}
-use Rattle.image_commands.specs.declared.changes.Change.TheVariants.{Fill, Mosaic, Mean, Blur, Move, Flip}
+use Rattle.image_commands.specs.declared.changes.Change.TheVariants.{Fill, Flip}
 
 -- one of the steps fills in the frame of this number
 abbrev pub any_fills : {V : Type 0} → ℕ → List (Step V) → Bool
@@ -25,13 +25,10 @@ FillFirst number (j ∷ js) = (fills_first number j.steps ≡ true) × FillFirst
 -- whether a change of an image of so many columns and rows fills a place, or the steps after it do (later): a flip brings the place elsewhere
 abbrev pub filled_by : ℕ → ℕ → Change (List ℕ) → (ℕ → ℕ → Bool) → ℕ → ℕ → Bool
 filled_by width height (Fill w value) later x y = if covers w.left w.top w.width w.height x y then true else later x y
-filled_by width height (Mosaic w tile_width tile_height) later x y = later x y
-filled_by width height (Mean w tile_width tile_height bytes) later x y = later x y
-filled_by width height (Blur w across down bytes) later x y = later x y
-filled_by width height (Move w left top) later x y = later x y
 filled_by width height (Flip Rows) later x y = later x (height - 1 - y)
 filled_by width height (Flip Columns) later x y = later (width - 1 - x) y
 filled_by width height (Flip Both) later x y = later (width - 1 - x) (height - 1 - y)
+filled_by width height change later x y = later x y
 
 -- whether one of the steps of the frame of this number fills a place
 abbrev pub is_filled : ℕ → ℕ → ℕ → List (Step (List ℕ)) → ℕ → ℕ → Bool

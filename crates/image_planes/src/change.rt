@@ -9,7 +9,7 @@ ghost use Rattle.image_shape.specs.Window.{as_window};
 ghost use Rattle.image_means.specs.Blur.{blurred};
 ghost use Rattle.image_means.specs.Means.{sample_cells};
 ghost use Rattle.image_writes.specs.Written.{Becomes};
-ghost use Rattle.image_planes.specs.Changes.{IsChangeOf, bytes_for, changed, flipped_by, in_bytes};
+ghost use Rattle.image_planes.specs.Changes.{bytes_for, changed, flipped_by, in_bytes, is_change_of};
 ghost use Rattle.image_planes.specs.Pixels.{HavePixels};
 ghost use Rattle.image_commands.specs.Changes.{is_blur};
 ghost use Rattle.image_planes.specs.Scratch.{has_room};
@@ -151,7 +151,7 @@ pub(crate) fn change_cells(
     sums: &mut [u32],
 )
     requires pixels { HavePixels cells.old shape size }
-    requires inside { IsChangeOf (shape_width shape / size) (shape_height shape) change }
+    requires inside { IsTrue (is_change_of (shape_width shape / size) (shape_height shape) change) }
     requires room { IsTrue (has_room (length cells.old) (shape_width shape)
         (length copy.old) (length sums.old) change) }
     ensures { Becomes shape cells.old cells.new
