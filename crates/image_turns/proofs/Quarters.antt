@@ -1,21 +1,21 @@
 -- Images whose columns are rows: the cells that are read one after the other, a block that is read, transposed and written, and the strips and blocks that are written one after the other.
-use Rattle.std.proofs.Common.{◌≡◌, Bool, true, false, refl, sym, ◌∙◌, List, Option, ℕ, ◌*◌, ◌+◌, ◌-◌, ◌<◌, ◌≤◌, ◌⊎◌, arith, inl, inr, min}
+use Rattle.std.proofs.Common.{◌≡◌, true, false, refl, sym, ◌∙◌, List, ℕ, ◌*◌, ◌+◌, ◌-◌, ◌<◌, ◌≤◌, ◌⊎◌, arith, inl, inr, min}
 use Rattle.std.specs.Prelude.{IsTrue}
 use Rattle.std.proofs.lemmas.Bool.{true≢false, false≢true}
-use Rattle.image_model.specs.Grid.{Grid, grid, view}
+use Rattle.image_model.specs.Grid.{Grid}
 use Rattle.image_model.specs.Turns.{transposed}
-use Rattle.image_model.specs.Windows.{Window, window_view}
+use Rattle.image_model.specs.Windows.{Window}
 use Rattle.image_model.proofs.Grids.{at_place, same_grids}
 use Rattle.image_model.proofs.Rows.{row_count-le}
 use Rattle.image_shape.specs.declared.shape.Shape.{Shape}
 use Rattle.image_turns.specs.Blocks.{line_read, read_over}
-use Rattle.image_turns.specs.Oriented.{source_column, source_row, source_window, first_read, oriented_width, oriented_height, oriented, crosses, reads_back, writes_back}
+use Rattle.image_turns.specs.Oriented.{source_column, source_row, source_window, oriented_width, oriented_height, oriented, crosses, reads_back, writes_back}
 use Rattle.image_turns.specs.Sizes.{AreCrosswise, AreOriented}
 use Rattle.image_turns.specs.declared.pixel_turning.Orientation.{Orientation}
 use Rattle.image_turns.specs.declared.pixel_turning.Orientation.TheVariants.{Transposed, Right, Half, Left}
 use Rattle.image_turns.specs.declared.pixel_turning.Origin.{Origin}
 use Rattle.image_turns.proofs.FromPlaces.{rows_back}
-use Rattle.image_turns.proofs.Oriented.{by_places, same_places, source_within}
+use Rattle.image_turns.proofs.Oriented.{same_places}
 use Rattle.image_turns.proofs.Shuffles.{line_within}
 use Rattle.image_turns.proofs.Windowed.{IsBeside}
 
@@ -25,6 +25,13 @@ crossed_sizes Transposed crossed columns rows = (refl, refl)
 crossed_sizes Right crossed columns rows = (refl, refl)
 crossed_sizes Half crossed columns rows = absurd (false≢true crossed)
 crossed_sizes Left crossed columns rows = (refl, refl)
+
+-- and so is that of a window of the source
+pub crossed_window : (o : Orientation) → IsTrue (crosses o) → (columns rows : ℕ) (w : Window) → ((source_window o columns rows w).width ≡ w.height) × ((source_window o columns rows w).height ≡ w.width)
+crossed_window Transposed crossed columns rows w = (refl, refl)
+crossed_window Right crossed columns rows w = (refl, refl)
+crossed_window Half crossed columns rows w = absurd (false≢true crossed)
+crossed_window Left crossed columns rows w = (refl, refl)
 
 pub as_oriented : {T : Type 0} {cells source : List T} {s : Shape} {from : Origin} → AreCrosswise cells s source from → AreOriented 1 cells s source from
 as_oriented {from = from} sizes =
@@ -54,41 +61,8 @@ read_back Right width height stride x y back below = rows_back height stride y x
 read_back Half width height stride x y back below = absurd (true≢false (sym back))
 read_back Left width height stride x y back below = absurd (true≢false (sym back))
 
--- what is read is there
-pub first_inside : (back : Bool) (len start count : ℕ) → start + count ≤ len → first_read back len start count + count ≤ len
-first_inside true len start count there = omega (arith, there)
-first_inside false len start count there = there
-
--- a place of a window shows that place of the window of the source
-window_place : (o : Orientation) → IsTrue (crosses o) → (columns rows : ℕ) (w : Window) → w.left + w.width ≤ rows → w.top + w.height ≤ columns → (x y : ℕ) → x < w.width → y < w.height → let v = source_window o columns rows w in
-    (v.left + source_column o v.width x y ≡ source_column o columns (w.left + x) (w.top + y)) × (v.top + source_row o v.height x y ≡ source_row o rows (w.left + x) (w.top + y))
-window_place Transposed crossed columns rows w wide high x y column line = (refl, refl)
-window_place Right crossed columns rows w wide high x y column line = (refl, omega (arith, wide, column))
-window_place Half crossed columns rows w wide high x y column line = absurd (false≢true crossed)
-window_place Left crossed columns rows w wide high x y column line = (omega (arith, high, line), refl)
-
--- so the window shows the window of the source
-pub view_oriented : {T : Type 0} (o : Orientation) → IsTrue (crosses o) → (g : Grid T) (w : Window) → w.left + w.width ≤ g.height → w.top + w.height ≤ g.width
-    → oriented 1 o (window_view g (source_window o g.width g.height w)) ≡ window_view (oriented 1 o g) w
-unfolding view
-view_oriented {T} o crossed g w wide high =
-    let v : Window = source_window o g.width g.height w in
-    let size = crossed_sizes o crossed v.width v.height in
-    let whole = crossed_sizes o crossed g.width g.height in
-    let pixel : ℕ → ℕ → Option T = λ x y. (window_view g v).pixel (source_column o v.width x y) (source_row o v.height x y) in
-    sym (same_places o (window_view g v))
-    ∙ (λ i. grid (size.0 i) (size.1 i) pixel)
-    ∙ same_grids w.width w.height pixel (λ x y. (by_places o g).pixel (w.left + x) (w.top + y))
-    (λ x y column line.
-    let place = source_within o v.width v.height x y (omega (arith, column, size.0)) (omega (arith, line, size.1)) in
-    let from = window_place o crossed g.width g.height w wide high x y column line in
-    at_place v.width v.height (λ m n. g.pixel (v.left + m) (v.top + n)) (source_column o v.width x y) (source_row o v.height x y) place.0 place.1
-    ∙ (λ i. g.pixel (from.0 i) (from.1 i))
-    ∙ sym (at_place (oriented_width o g.width g.height) (oriented_height o g.width g.height) (λ m n. g.pixel (source_column o g.width m n) (source_row o g.height m n)) (w.left + x) (w.top + y) (omega (arith, wide, column, whole.0)) (omega (arith, high, line, whole.1))))
-    ∙ (λ i. view (same_places o g i) w.left w.top w.width w.height)
-
 -- the sizes and the cells of images whose columns are rows
-pub ruleset crossing = (row_count-le, line_within, first_inside)
+pub ruleset crossing = (crossed_sizes, crossed_window, row_count-le, line_within)
 
 -- rows that are read, transposed and written
 pub read_transposed : {T : Type 0} (o : Orientation) → IsTrue (crosses o) → (g : Grid T) → read_over (writes_back o) (transposed (read_over (reads_back o) g)) ≡ oriented 1 o g

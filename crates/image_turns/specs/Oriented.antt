@@ -39,6 +39,13 @@ oriented size o g =
     grid (oriented_width o (g.width / size) g.height * size) (oriented_height o (g.width / size) g.height)
     (λ x y. g.pixel (source_column o (g.width / size) (x / size) y * size + x % size) (source_row o g.height (x / size) y))
 
+-- the window of the source that a window of the image shows, where the source has so many columns and rows
+abbrev pub source_window : Orientation → ℕ → ℕ → Window → Window
+source_window Transposed columns rows w = window w.top w.left w.height w.width
+source_window Right columns rows w = window w.top (rows - w.left - w.width) w.height w.width
+source_window Half columns rows w = window (columns - w.left - w.width) (rows - w.top - w.height) w.width w.height
+source_window Left columns rows w = window (columns - w.top - w.height) w.left w.height w.width
+
 -- whether columns become rows
 abbrev pub crosses : Orientation → Bool
 crosses Half = false
@@ -53,15 +60,6 @@ reads_back _ = false
 abbrev pub writes_back : Orientation → Bool
 writes_back Left = true
 writes_back _ = false
-
--- the first of so many columns or rows of the source that are read for those from one on, from the last one on or not
-abbrev pub first_read : Bool → ℕ → ℕ → ℕ → ℕ
-first_read true len start count = len - start - count
-first_read false len start count = start
-
--- where columns become rows, the window of the source that a window of the image shows
-abbrev pub source_window : Orientation → ℕ → ℕ → Window → Window
-source_window o columns rows w = window (first_read (writes_back o) columns w.top w.height) (first_read (reads_back o) rows w.left w.width) w.height w.width
 
 -- the cell of a source with this stride from which cell k comes, of the pixels of row y from column `left` on
 abbrev pub source_cell : Orientation → ℕ → ℕ → ℕ → ℕ → ℕ → ℕ → ℕ → ℕ

@@ -4,11 +4,11 @@ ghost use Rattle.std.specs.Prelude.{◌≡◌, ◌+◌, ◌-◌, ◌*◌, ◌<�
 ghost use Rattle.image_model.specs.Layout.{Fits, SameOutside};
 ghost use Rattle.image_model.specs.Grid.{patch, view};
 ghost use Rattle.image_model.specs.Turns.{transposed, turned_half};
-ghost use Rattle.image_model.specs.Windows.{window_view};
+ghost use Rattle.image_model.specs.Windows.{window_view, IsInside};
 ghost use Rattle.image_shape.specs.Shape.{shape_width, shape_height, shaped_grid, shaped};
 ghost use Rattle.image_shape.specs.Window.{as_window};
 ghost use Rattle.image_writes.specs.Gathered.{AreGathered};
-ghost use Rattle.image_turns.specs.Oriented.{crosses, first_read, oriented, reads_back, writes_back};
+ghost use Rattle.image_turns.specs.Oriented.{crosses, oriented, oriented_width, oriented_height, reads_back, source_window, writes_back};
 ghost use Rattle.image_turns.specs.Turned.{turned, turned_width, turned_height};
 ghost use Rattle.image_turns.specs.Sizes.{AreCrosswise};
 ghost use Rattle.image_writes.specs.Written.{Becomes, HaveSameSize};
@@ -106,12 +106,31 @@ fn writes_back(orientation: Orientation) -> bool
     matches!(orientation, Orientation::Left)
 }
 
-// The first of `count` columns or rows of the source that are read for those from `start` on, of `len`.
-fn first_read(back: bool, len: usize, start: usize, count: usize) -> usize
-    requires there { start + count ≤ len }
-    ensures { result ≡ first_read back len start count }
+// The window of the source that a window of the image shows.
+#[inline(always)]
+fn source_window(origin: Origin, shown: Window) -> Window
+    requires inside { IsInside
+        (oriented_width origin.orientation origin.columns (shape_height origin.shape))
+        (oriented_height origin.orientation origin.columns (shape_height origin.shape))
+        (as_window shown) }
+    ensures { as_window result ≡ source_window origin.orientation origin.columns
+        (shape_height origin.shape) (as_window shown) }
 {
-    if back { len - start - count } else { start }
+    let Window {
+        left,
+        top,
+        width,
+        height,
+    } = shown;
+    let (columns, rows) = (origin.columns, origin.shape.height());
+    match origin.orientation {
+        Orientation::Transposed => Window::new(top, left, height, width),
+        Orientation::Right => Window::new(top, rows - left - width, height, width),
+        Orientation::Half => {
+            Window::new(columns - left - width, rows - top - height, width, height)
+        }
+        Orientation::Left => Window::new(columns - top - height, left, height, width),
+    }
 }
 
 // The part of the source that a window of the image shows, and where the window's pixels come from.
@@ -132,18 +151,8 @@ pub(crate) fn shown_part<T>(source: &[T], origin: Origin, shown: Window) -> (&[T
         ≡ window_view (oriented 1 origin.orientation (shaped_grid source.now origin.shape))
         (as_window shown) }
 {
-    let Window {
-        left,
-        top,
-        width,
-        height,
-    } = shown;
-    let rows = origin.shape.height();
-    let column = first_read(writes_back(origin.orientation), origin.columns, top, height);
-    let line = first_read(reads_back(origin.orientation), rows, left, width);
-    let place = Window::new(column, line, height, width);
-    let (part, shape) = padded_part(source, origin.shape, place);
-    let columns = height;
+    let (part, shape) = padded_part(source, origin.shape, source_window(origin, shown));
+    let columns = shown.height;
     (
         part,
         Origin {
