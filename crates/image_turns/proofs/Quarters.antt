@@ -3,20 +3,20 @@ use Rattle.std.proofs.Common.{◌≡◌, true, false, refl, sym, ◌∙◌, List
 use Rattle.std.specs.Prelude.{IsTrue}
 use Rattle.std.proofs.lemmas.Bool.{true≢false, false≢true}
 use Rattle.image_model.specs.Grid.{Grid}
+use Rattle.image_model.specs.Layout.{Reaches}
 use Rattle.image_model.specs.Turns.{transposed}
 use Rattle.image_model.specs.Windows.{Window}
 use Rattle.image_model.proofs.Grids.{at_place, same_grids}
-use Rattle.image_model.proofs.Rows.{row_count-le}
+use Rattle.image_model.proofs.Places.{reached}
 use Rattle.image_shape.specs.declared.shape.Shape.{Shape}
-use Rattle.image_turns.specs.Blocks.{line_read, read_over}
+use Rattle.image_turns.specs.Blocks.{read_over}
 use Rattle.image_turns.specs.Oriented.{source_column, source_row, source_window, oriented_width, oriented_height, oriented, crosses, reads_back, writes_back}
 use Rattle.image_turns.specs.Sizes.{AreCrosswise, AreOriented}
 use Rattle.image_turns.specs.declared.pixel_turning.Orientation.{Orientation}
 use Rattle.image_turns.specs.declared.pixel_turning.Orientation.TheVariants.{Transposed, Right, Half, Left}
 use Rattle.image_turns.specs.declared.pixel_turning.Origin.{Origin}
 use Rattle.image_turns.proofs.FromPlaces.{rows_back}
-use Rattle.image_turns.proofs.Oriented.{same_places}
-use Rattle.image_turns.proofs.Shuffles.{line_within}
+use Rattle.image_turns.proofs.Oriented.{same_places, source_within}
 use Rattle.image_turns.proofs.Windowed.{IsBeside}
 
 -- the size of an image is that of the other one, the other way round
@@ -45,24 +45,39 @@ as_oriented {from = from} sizes =
       height = omega (arith, sizes.lines, sizes.source_width, crossed.1);
     }
 
--- the number of the cell that column x of row y shows, counted from the first row that is read
+-- the number of the cell that column x of row y shows, counted from the one that the first column shows
 pub read_forth : (o : Orientation) (width height stride x y : ℕ) → IsTrue (crosses o) → reads_back o ≡ false
-    → line_read (writes_back o) width y + x * stride ≡ source_row o height x y * stride + source_column o width x y
+    → source_row o height 0 y * stride + source_column o width 0 y * 1 + x * stride ≡ source_row o height x y * stride + source_column o width x y
 read_forth Transposed width height stride x y crossed forth = omega arith
 read_forth Right width height stride x y crossed forth = absurd (true≢false forth)
 read_forth Half width height stride x y crossed forth = absurd (false≢true crossed)
 read_forth Left width height stride x y crossed forth = omega arith
 
--- and back from the last one
+-- and back from there
 pub read_back : (o : Orientation) (width height stride x y : ℕ) → reads_back o ≡ true → x < height
-    → (height - 1) * stride + line_read (writes_back o) width y - x * stride ≡ source_row o height x y * stride + source_column o width x y
+    → source_row o height 0 y * stride + source_column o width 0 y * 1 - x * stride ≡ source_row o height x y * stride + source_column o width x y
 read_back Transposed width height stride x y back below = absurd (true≢false (sym back))
-read_back Right width height stride x y back below = rows_back height stride y x below
+read_back Right width height stride x y back below =
+    let first : height - 1 - 0 ≡ height - 1 = omega arith in
+    let once : y * 1 ≡ y = omega arith in
+    (λ i. first i * stride + once i - x * stride) ∙ rows_back height stride y x below
 read_back Half width height stride x y back below = absurd (true≢false (sym back))
 read_back Left width height stride x y back below = absurd (true≢false (sym back))
 
--- the sizes and the cells of images whose columns are rows
-pub ruleset crossing = (crossed_sizes, crossed_window, row_count-le, line_within)
+-- the last row is the first one that is read back
+pub last_row : (o : Orientation) (height y : ℕ) → reads_back o ≡ true → source_row o height 0 y ≡ height - 1
+last_row Transposed height y back = absurd (true≢false (sym back))
+last_row Right height y back = omega arith
+last_row Half height y back = absurd (true≢false (sym back))
+last_row Left height y back = absurd (true≢false (sym back))
+
+-- the last cell that is read is there
+pub forth_within : (o : Orientation) (len width height stride x y : ℕ) → IsTrue (crosses o) → reads_back o ≡ false → Reaches len width height stride → x < height → y < width
+    → source_row o height 0 y * stride + source_column o width 0 y * 1 + x * stride < len
+forth_within o len width height stride x y crossed forth fits column line =
+    let sizes = crossed_sizes o crossed width height in
+    let place = source_within o width height x y (omega (arith, column, sizes.0)) (omega (arith, line, sizes.1)) in
+    omega (arith, read_forth o width height stride x y crossed forth, reached len width height stride (source_column o width x y) (source_row o height x y) fits place.0 place.1)
 
 -- rows that are read, transposed and written
 pub read_transposed : {T : Type 0} (o : Orientation) → IsTrue (crosses o) → (g : Grid T) → read_over (writes_back o) (transposed (read_over (reads_back o) g)) ≡ oriented 1 o g

@@ -14,9 +14,9 @@ ghost use Rattle.image_turns.specs.Sizes.{AreCrosswise};
 ghost use Rattle.image_writes.specs.Written.{Becomes, HaveSameSize};
 
 use crate::bands::{copied_columns, quarter_copied};
-use crate::blocks::{block_shape, line_read, read_rows, transpose_block};
+use crate::blocks::{block_shape, read_rows, transpose_block};
 use crate::near::rows_near;
-use crate::pixel_turning::{Orientation, Origin};
+use crate::pixel_turning::{Orientation, Origin, source_start};
 use image_flips::copy_back;
 use image_rows::row;
 use image_shape::{Shape, Window};
@@ -73,7 +73,6 @@ pub enum Turn {
 // Every pixel of `shape` in `cells` becomes the pixel of the source whose columns are rows, row by
 // row.
 #[inline(always)]
-#[tactic(auto, using(crate::proofs::Quarters::crossing))]
 pub(crate) fn quarter_rows<T: Copy>(cells: &mut [T], shape: Shape, source: &[T], origin: Origin)
     requires { AreCrosswise cells.old shape source.now origin }
     ensures { Becomes shape cells.old cells.new
@@ -82,12 +81,11 @@ pub(crate) fn quarter_rows<T: Copy>(cells: &mut [T], shape: Shape, source: &[T],
     for y in 0..shape.row_count() {
         let place = shape.row(cells.len(), y);
         let target = &mut cells[place.range()];
-        let column = line_read(writes_back(origin.orientation), origin.columns, y);
+        let start = source_start::<1>(origin, source.len(), 0, y);
         if reads_back(origin.orientation) {
-            let last = origin.shape.row(source.len(), origin.shape.height() - 1);
-            gather_back(target, source, last.start + column, origin.shape.stride());
+            gather_back(target, source, start, origin.shape.stride());
         } else {
-            gather(target, source, column, origin.shape.stride());
+            gather(target, source, start, origin.shape.stride());
         }
     }
 }
@@ -135,7 +133,6 @@ fn source_window(origin: Origin, shown: Window) -> Window
 
 // The part of the source that a window of the image shows, and where the window's pixels come from.
 #[inline(always)]
-#[tactic(auto, using(crate::proofs::Quarters::crossing))]
 pub(crate) fn shown_part<T>(source: &[T], origin: Origin, shown: Window) -> (&[T], Origin)
     requires fits { Fits (shaped source.now origin.shape) }
     requires source_width { origin.columns ≡ shape_width origin.shape }
