@@ -77,7 +77,7 @@ fn source_place(origin: Origin, x: usize, y: usize) -> (usize, usize)
 // The number of the cell with which the pixel of the source begins that column `x` of row `y` gets. The
 // source has `len` cells.
 #[inline(always)]
-pub(crate) fn source_start<const N: usize>(origin: Origin, len: usize, x: usize, y: usize) -> usize
+fn source_start<const N: usize>(origin: Origin, len: usize, x: usize, y: usize) -> usize
     requires some { 0 < N }
     requires fits { Reaches len (shape_width origin.shape) (shape_height origin.shape)
         (shape_stride origin.shape) }
