@@ -4,6 +4,7 @@ pub mod FromPlaces
 pub mod Oriented
 pub mod PixelSquares
 pub mod PlacesCrossed
+pub mod QuarterBlocks
 pub mod Quarters
 pub mod Shuffles
 pub mod SquareBlocks

@@ -1,5 +1,5 @@
 -- Pixels of several cells that come from other places of a source: pixel by pixel, row by row, and all of them.
-use Rattle.std.proofs.Common.{◌≡◌, ℕ, ◌+◌, ◌-◌, ◌*◌, ◌/◌, ◌%◌, ◌<◌, ◌≤◌, List, length, Option, refl, sym, ap, ◌∙◌, subst, arith, inl, inr}
+use Rattle.std.proofs.Common.{◌≡◌, ℕ, ◌+◌, ◌-◌, ◌*◌, ◌/◌, ◌%◌, ◌<◌, ◌≤◌, List, length, Option, sym, ap, ◌∙◌, subst, arith, inl, inr}
 use Rattle.std.specs.List.{slice_get}
 use Rattle.std.proofs.lemmas.Bool.{cases_lt}
 use Rattle.std.proofs.lemmas.Nat.{div-mul-add, mod-mul-add, mod_below, div_below, mul-le}
@@ -7,12 +7,12 @@ use Rattle.std.proofs.Math.Nat.{add-mul, mul_comm, mul-add-div_right, mul-add-mo
 use Rattle.image_model.specs.Layout.{Layout, Reaches}
 use Rattle.image_model.specs.Grid.{Grid, grid, grid_of, view}
 use Rattle.image_model.specs.Turns.{transposed, turned_right, turned_half, turned_left}
-use Rattle.image_model.specs.Windows.{Stretch, Window, IsInside, window_view, with_stretch}
+use Rattle.image_model.specs.Windows.{Stretch, with_stretch}
 use Rattle.image_model.proofs.Stretches.{length-with_stretch, with_stretch_at, with_stretch_beside}
 use Rattle.image_model.proofs.Grids.{at_place, same_grids}
 use Rattle.image_shape.specs.Shape.{shaped, shaped_grid}
 use Rattle.image_shape.specs.declared.shape.Shape.{Shape}
-use Rattle.image_turns.specs.Oriented.{source_column, source_row, source_window, oriented_width, oriented_height, oriented, source_cell}
+use Rattle.image_turns.specs.Oriented.{source_column, source_row, oriented_width, oriented_height, oriented, source_cell}
 use Rattle.image_turns.specs.Sizes.{AreOriented}
 use Rattle.image_turns.specs.declared.pixel_turning.Orientation.{Orientation}
 use Rattle.image_turns.specs.declared.pixel_turning.Orientation.TheVariants.{Transposed, Right, Half, Left}
@@ -31,35 +31,11 @@ source_within Right columns rows x y column line = (line, omega (arith, column))
 source_within Half columns rows x y column line = (omega (arith, column), omega (arith, line))
 source_within Left columns rows x y column line = (omega (arith, line), column)
 
--- the window of the source becomes as large as the window that shows it
-window_size : (o : Orientation) (columns rows : ℕ) (w : Window) → let v = source_window o columns rows w in (oriented_width o v.width v.height ≡ w.width) × (oriented_height o v.width v.height ≡ w.height)
-window_size Transposed columns rows w = (refl, refl)
-window_size Right columns rows w = (refl, refl)
-window_size Half columns rows w = (refl, refl)
-window_size Left columns rows w = (refl, refl)
-
--- a place of it is shown at that place of the window
-window_place : (o : Orientation) (columns rows : ℕ) (w : Window) → IsInside (oriented_width o columns rows) (oriented_height o columns rows) w → (x y : ℕ) → x < w.width → y < w.height → let v = source_window o columns rows w in
-    (v.left + source_column o v.width x y ≡ source_column o columns (w.left + x) (w.top + y)) × (v.top + source_row o v.height x y ≡ source_row o rows (w.left + x) (w.top + y))
-window_place Transposed columns rows w inside x y column line = (refl, refl)
-window_place Right columns rows w inside x y column line = (refl, omega (arith, inside.0, column))
-window_place Half columns rows w inside x y column line = (omega (arith, inside.0, column), omega (arith, inside.1, line))
-window_place Left columns rows w inside x y column line = (omega (arith, inside.1, line), refl)
-
--- and it is inside
-pub window_inside : (o : Orientation) (columns rows : ℕ) (w : Window) → IsInside (oriented_width o columns rows) (oriented_height o columns rows) w → IsInside columns rows (source_window o columns rows w)
-window_inside Transposed columns rows w inside = (inside.1, inside.0)
-window_inside Right columns rows w inside = (inside.1, omega (arith, inside.0))
-window_inside Half columns rows w inside = (omega (arith, inside.0), omega (arith, inside.1))
-window_inside Left columns rows w inside = (omega (arith, inside.1), inside.0)
-
 -- ---- pixels of one cell
 
--- the grid whose pixels are those of another grid at these places
-abbrev pub by_places : {T : Type 0} → Orientation → Grid T → Grid T
-by_places o g = grid (oriented_width o g.width g.height) (oriented_height o g.width g.height) (λ x y. g.pixel (source_column o g.width x y) (source_row o g.height x y))
-
-pub same_places : {T : Type 0} (o : Orientation) (g : Grid T) → by_places o g ≡ oriented 1 o g
+-- they come from the same places
+same_places : {T : Type 0} (o : Orientation) (g : Grid T)
+    → grid (oriented_width o g.width g.height) (oriented_height o g.width g.height) (λ x y. g.pixel (source_column o g.width x y) (source_row o g.height x y)) ≡ oriented 1 o g
 same_places o g =
     let wide : g.width ≡ g.width / 1 = omega arith in
     let same : (x : ℕ) → x ≡ x / 1 = λ x. omega arith in
@@ -83,25 +59,6 @@ placed_cells Transposed g = same_places Transposed g
 placed_cells Right g = same_places Right g
 placed_cells Half g = same_places Half g
 placed_cells Left g = same_places Left g
-
--- a window of the image shows the window of the source
-pub view_oriented : {T : Type 0} (o : Orientation) (g : Grid T) (w : Window) → IsInside (oriented_width o g.width g.height) (oriented_height o g.width g.height) w
-    → oriented 1 o (window_view g (source_window o g.width g.height w)) ≡ window_view (oriented 1 o g) w
-unfolding view
-view_oriented {T} o g w inside =
-    let v : Window = source_window o g.width g.height w in
-    let size = window_size o g.width g.height w in
-    let pixel : ℕ → ℕ → Option T = λ x y. (window_view g v).pixel (source_column o v.width x y) (source_row o v.height x y) in
-    sym (same_places o (window_view g v))
-    ∙ (λ i. grid (size.0 i) (size.1 i) pixel)
-    ∙ same_grids w.width w.height pixel (λ x y. (by_places o g).pixel (w.left + x) (w.top + y))
-    (λ x y column line.
-    let place = source_within o v.width v.height x y (omega (arith, column, size.0)) (omega (arith, line, size.1)) in
-    let from = window_place o g.width g.height w inside x y column line in
-    at_place v.width v.height (λ m n. g.pixel (v.left + m) (v.top + n)) (source_column o v.width x y) (source_row o v.height x y) place.0 place.1
-    ∙ (λ i. g.pixel (from.0 i) (from.1 i))
-    ∙ sym (at_place (oriented_width o g.width g.height) (oriented_height o g.width g.height) (λ m n. g.pixel (source_column o g.width m n) (source_row o g.height m n)) (w.left + x) (w.top + y) (omega (arith, inside.0, column)) (omega (arith, inside.1, line))))
-    ∙ (λ i. view (same_places o g i) w.left w.top w.width w.height)
 
 -- ---- pixel by pixel
 

@@ -1,85 +1,42 @@
--- Images whose columns are rows: the cells that are read one after the other, a block that is read, transposed and written, and the strips and blocks that are written one after the other.
-use Rattle.std.proofs.Common.{◌≡◌, true, false, refl, sym, ◌∙◌, List, ℕ, ◌*◌, ◌+◌, ◌-◌, ◌<◌, ◌≤◌, ◌⊎◌, arith, inl, inr, min}
-use Rattle.std.specs.Prelude.{IsTrue}
-use Rattle.std.proofs.lemmas.Bool.{true≢false, false≢true}
-use Rattle.image_model.specs.Grid.{Grid}
-use Rattle.image_model.specs.Turns.{transposed}
-use Rattle.image_model.specs.Windows.{Window}
-use Rattle.image_model.proofs.Grids.{at_place, same_grids}
-use Rattle.image_model.proofs.Rows.{row_count-le}
+-- Images whose columns are rows: the places of the source that they show, and the strips and blocks that are written one after the other.
+use Rattle.std.proofs.Common.{◌≡◌, true, false, refl, sym, List, Option, ℕ, ◌*◌, ◌+◌, ◌-◌, ◌<◌, ◌≤◌, ◌⊎◌, arith, inl, inr, min}
+use Rattle.std.proofs.lemmas.Bool.{true≢false}
+use Rattle.image_model.specs.Grid.{grid, grid_of}
+use Rattle.image_shape.specs.Shape.{shaped_grid}
 use Rattle.image_shape.specs.declared.shape.Shape.{Shape}
-use Rattle.image_turns.specs.Blocks.{line_read, read_over}
-use Rattle.image_turns.specs.Oriented.{source_column, source_row, source_window, oriented_width, oriented_height, oriented, crosses, reads_back, writes_back}
-use Rattle.image_turns.specs.Sizes.{AreCrosswise, AreOriented}
-use Rattle.image_turns.specs.declared.pixel_turning.Orientation.{Orientation}
-use Rattle.image_turns.specs.declared.pixel_turning.Orientation.TheVariants.{Transposed, Right, Half, Left}
-use Rattle.image_turns.specs.declared.pixel_turning.Origin.{Origin}
+use Rattle.image_turns.specs.Quarters.{source_column, source_row, quartered, first_column, reads_back}
+use Rattle.image_turns.specs.Sizes.{AreCrosswise}
+use Rattle.image_writes.specs.Written.{Becomes}
+use Rattle.image_turns.specs.declared.turning.Crossing.{Crossing}
+use Rattle.image_turns.specs.declared.turning.Crossing.TheVariants.{Across, Right, Left}
 use Rattle.image_turns.proofs.FromPlaces.{rows_back}
-use Rattle.image_turns.proofs.Oriented.{same_places}
-use Rattle.image_turns.proofs.Shuffles.{line_within}
-use Rattle.image_turns.proofs.Windowed.{IsBeside}
+use Rattle.image_turns.proofs.Windowed.{IsBeside, ShowsWhere, shows_all}
 
--- the size of an image is that of the other one, the other way round
-pub crossed_sizes : (o : Orientation) → IsTrue (crosses o) → (columns rows : ℕ) → (oriented_width o columns rows ≡ rows) × (oriented_height o columns rows ≡ columns)
-crossed_sizes Transposed crossed columns rows = (refl, refl)
-crossed_sizes Right crossed columns rows = (refl, refl)
-crossed_sizes Half crossed columns rows = absurd (false≢true crossed)
-crossed_sizes Left crossed columns rows = (refl, refl)
-
--- and so is that of a window of the source
-pub crossed_window : (o : Orientation) → IsTrue (crosses o) → (columns rows : ℕ) (w : Window) → ((source_window o columns rows w).width ≡ w.height) × ((source_window o columns rows w).height ≡ w.width)
-crossed_window Transposed crossed columns rows w = (refl, refl)
-crossed_window Right crossed columns rows w = (refl, refl)
-crossed_window Half crossed columns rows w = absurd (false≢true crossed)
-crossed_window Left crossed columns rows w = (refl, refl)
-
-pub as_oriented : {T : Type 0} {cells source : List T} {s : Shape} {from : Origin} → AreCrosswise cells s source from → AreOriented 1 cells s source from
-as_oriented {from = from} sizes =
-    let crossed = crossed_sizes from.orientation sizes.crossed from.columns from.shape.height in
-    record {
-      some = omega arith;
-      fits = sizes.fits;
-      source_fits = sizes.source_fits;
-      source_width = omega (arith, sizes.source_width);
-      width = omega (arith, sizes.columns, crossed.0);
-      height = omega (arith, sizes.lines, sizes.source_width, crossed.1);
-    }
+-- the source has the place that is shown
+pub source_place : (crossing : Crossing) (width height x y : ℕ) → x < height → y < width → (source_column crossing width x y < width) × (source_row crossing height x y < height)
+source_place Across width height x y column line = (line, column)
+source_place Right width height x y column line = (line, omega (arith, column))
+source_place Left width height x y column line = (omega (arith, line), column)
 
 -- the number of the cell that column x of row y shows, counted from the first row that is read
-pub read_forth : (o : Orientation) (width height stride x y : ℕ) → IsTrue (crosses o) → reads_back o ≡ false
-    → line_read (writes_back o) width y + x * stride ≡ source_row o height x y * stride + source_column o width x y
-read_forth Transposed width height stride x y crossed forth = omega arith
-read_forth Right width height stride x y crossed forth = absurd (true≢false forth)
-read_forth Half width height stride x y crossed forth = absurd (false≢true crossed)
-read_forth Left width height stride x y crossed forth = omega arith
+pub read_forth : (crossing : Crossing) (width height stride x y : ℕ) → reads_back crossing ≡ false
+    → first_column crossing width y 1 + x * stride ≡ source_row crossing height x y * stride + source_column crossing width x y
+read_forth Across width height stride x y forth = omega arith
+read_forth Right width height stride x y forth = absurd (true≢false forth)
+read_forth Left width height stride x y forth = omega arith
 
 -- and back from the last one
-pub read_back : (o : Orientation) (width height stride x y : ℕ) → reads_back o ≡ true → x < height
-    → (height - 1) * stride + line_read (writes_back o) width y - x * stride ≡ source_row o height x y * stride + source_column o width x y
-read_back Transposed width height stride x y back below = absurd (true≢false (sym back))
+pub read_back : (crossing : Crossing) (width height stride x y : ℕ) → reads_back crossing ≡ true → x < height
+    → (height - 1) * stride + first_column crossing width y 1 - x * stride ≡ source_row crossing height x y * stride + source_column crossing width x y
+read_back Across width height stride x y back below = absurd (true≢false (sym back))
 read_back Right width height stride x y back below = rows_back height stride y x below
-read_back Half width height stride x y back below = absurd (true≢false (sym back))
 read_back Left width height stride x y back below = absurd (true≢false (sym back))
 
--- the sizes and the cells of images whose columns are rows
-pub ruleset crossing = (crossed_sizes, crossed_window, row_count-le, line_within)
-
--- rows that are read, transposed and written
-pub read_transposed : {T : Type 0} (o : Orientation) → IsTrue (crosses o) → (g : Grid T) → read_over (writes_back o) (transposed (read_over (reads_back o) g)) ≡ oriented 1 o g
-unfolding transposed
-read_transposed Transposed crossed g =
-    same_grids g.height g.width _ _ (λ x y column line.
-    at_place g.height g.width (λ u v. (read_over false g).pixel v u) x y column line ∙ at_place g.width g.height g.pixel y x line column)
-    ∙ same_places Transposed g
-read_transposed Right crossed g =
-    same_grids g.height g.width _ _ (λ x y column line.
-    at_place g.height g.width (λ u v. (read_over true g).pixel v u) x y column line ∙ at_place g.width g.height (λ u v. g.pixel u (g.height - 1 - v)) y x line column)
-    ∙ same_places Right g
-read_transposed Half crossed g = absurd (false≢true crossed)
-read_transposed Left crossed g =
-    same_grids g.height g.width _ _ (λ x y column line.
-    at_place g.height g.width (λ u v. (read_over false g).pixel v u) x (g.width - 1 - y) column (omega (arith, line)) ∙ at_place g.width g.height g.pixel (g.width - 1 - y) x (omega (arith, line)) column)
-    ∙ same_places Left g
+-- all columns begin with the first
+pub whole_column : (crossing : Crossing) (width : ℕ) → 0 ≡ first_column crossing width 0 width
+whole_column Across width = refl
+whole_column Right width = refl
+whole_column Left width = omega arith
 
 -- the rows before this one, and of sixteen rows the columns before that one
 abbrev pub InBlocks : ℕ → ℕ → ℕ → ℕ → Type 0
@@ -108,3 +65,11 @@ InRows top x y = y < top
 pub before_rows : (width height top line lines upto x y : ℕ) → x < width → y < height → line ≤ top → min upto height ≤ line + lines → InRows upto x y → IsBeside 0 line width lines x y → InRows top x y
 before_rows width height top line lines upto x y column below order reach next beside =
     elim beside [ inl before ↦ absurd (omega (arith, before)) | inr (inl above) ↦ omega (arith, above, order) | inr (inr (inl after)) ↦ absurd (omega (arith, after, column)) | inr (inr (inr under)) ↦ absurd (omega (arith, under, below, reach, next)) ]
+
+-- once all places show the source, whose columns are rows, the image becomes that
+pub becomes_quartered : {T : Type 0} {Done : ℕ → ℕ → Type 0} {old now source : List T} {s t : Shape} (crossing : Crossing) → AreCrosswise old s source t → ShowsWhere Done (quartered crossing (shaped_grid source t)) old now s
+    → ((x y : ℕ) → x < s.width → y < s.height → Done x y) → Becomes s old now (quartered crossing (shaped_grid source t))
+unfolding grid_of
+becomes_quartered {T} {source = source} {t = t} crossing sizes so all =
+    let shown : ℕ → ℕ → Option T = λ x y. (shaped_grid source t).pixel (source_column crossing t.width x y) (source_row crossing t.height x y) in
+    shows_all so all shown (λ i. grid (sym sizes.columns i) (sym sizes.lines i) shown)

@@ -3,7 +3,7 @@ use Rattle.std.proofs.Common.{◌≡◌, ℕ, ◌+◌, ◌-◌, ◌<◌, ◌≤�
 use Rattle.std.proofs.lemmas.Bool.{cases_lt}
 use Rattle.image_model.specs.Layout.{SameOutside, pixel}
 use Rattle.image_model.specs.Grid.{Grid, grid, grid_of, patch, view}
-use Rattle.image_model.specs.Windows.{Window, window, window_view}
+use Rattle.image_model.specs.Windows.{Window, window}
 use Rattle.image_model.proofs.Grids.{at_place, pixel_at, same_grids}
 use Rattle.image_model.proofs.Patches.{in_patch, beside_patch, in_view}
 use Rattle.image_model.proofs.Places.{outside_trans}
@@ -37,10 +37,10 @@ shows_none Done cells none = record {
 }
 
 -- a window of which the part is written
-pub window_becomes : {T : Type 0} (q : Grid T) (s : Shape) (now new : List T) (w : Window) (left top width height : ℕ) → w ≡ window left top width height → (g : Grid T) → g ≡ window_view q w
+pub window_becomes : {T : Type 0} (q : Grid T) (s : Shape) (now new : List T) (w : Window) (left top width height : ℕ) → w ≡ window left top width height → (g : Grid T) → g ≡ view q left top width height
     → Becomes s now new (patch (shaped_grid now s) w.left w.top g) → Becomes s now new (patch (shaped_grid now s) left top (view q left top width height))
 window_becomes q s now new w left top width height is g shown became =
-    subst (Becomes s now new) (λ i. patch (shaped_grid now s) (is i).left (is i).top ((shown ∙ ap (window_view q) is) i)) became
+    subst (Becomes s now new) (λ i. patch (shaped_grid now s) (is i).left (is i).top (shown i)) became
 
 module _ {T : Type 0} {Done : ℕ → ℕ → Type 0} {q : Grid T} {old now : List T} {s : Shape} (so : ShowsWhere Done q old now s) where
   -- one window more

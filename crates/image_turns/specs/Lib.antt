@@ -1,4 +1,5 @@
 pub mod Blocks
 pub mod Oriented
+pub mod Quarters
 pub mod Sizes
 pub mod Turned

@@ -1,7 +1,6 @@
 -- Grids of pixels of several cells, next to one another in a row, that are transposed or turned.
-use Rattle.std.specs.Prelude.{ℕ, ◌+◌, ◌-◌, ◌*◌, ◌/◌, ◌%◌, ◌<◌, Bool, true, false}
+use Rattle.std.specs.Prelude.{ℕ, ◌+◌, ◌-◌, ◌*◌, ◌/◌, ◌%◌, ◌<◌}
 use Rattle.image_model.specs.Grid.{Grid, grid}
-use Rattle.image_model.specs.Windows.{Window, window}
 use Rattle.image_turns.specs.declared.pixel_turning.Orientation.{Orientation}
 use Rattle.image_turns.specs.declared.pixel_turning.Orientation.TheVariants.{Transposed, Right, Half, Left}
 
@@ -38,28 +37,6 @@ abbrev pub oriented : {T : Type 0} → ℕ → Orientation → Grid T → Grid T
 oriented size o g =
     grid (oriented_width o (g.width / size) g.height * size) (oriented_height o (g.width / size) g.height)
     (λ x y. g.pixel (source_column o (g.width / size) (x / size) y * size + x % size) (source_row o g.height (x / size) y))
-
--- the window of the source that a window of the image shows, where the source has so many columns and rows
-abbrev pub source_window : Orientation → ℕ → ℕ → Window → Window
-source_window Transposed columns rows w = window w.top w.left w.height w.width
-source_window Right columns rows w = window w.top (rows - w.left - w.width) w.height w.width
-source_window Half columns rows w = window (columns - w.left - w.width) (rows - w.top - w.height) w.width w.height
-source_window Left columns rows w = window (columns - w.top - w.height) w.left w.height w.width
-
--- whether columns become rows
-abbrev pub crosses : Orientation → Bool
-crosses Half = false
-crosses _ = true
-
--- whether the rows of a block are read from the last one on, before it is transposed
-abbrev pub reads_back : Orientation → Bool
-reads_back Right = true
-reads_back _ = false
-
--- whether they are written from the last one on, after that
-abbrev pub writes_back : Orientation → Bool
-writes_back Left = true
-writes_back _ = false
 
 -- the cell of a source with this stride from which cell k comes, of the pixels of row y from column `left` on
 abbrev pub source_cell : Orientation → ℕ → ℕ → ℕ → ℕ → ℕ → ℕ → ℕ → ℕ

@@ -1,20 +1,18 @@
 -- The sizes that an image needs to be turned.
-use Rattle.std.specs.Prelude.{ℕ, List, length, ◌≡◌, ◌+◌, ◌*◌, ◌<◌, ◌≤◌, IsTrue}
+use Rattle.std.specs.Prelude.{ℕ, List, length, ◌≡◌, ◌+◌, ◌*◌, ◌<◌, ◌≤◌}
 use Rattle.image_model.specs.Layout.{Fits}
 use Rattle.image_shape.specs.Shape.{shape_width, shape_height, shaped}
 use Rattle.image_shape.specs.declared.shape.Shape.{Shape}
-use Rattle.image_turns.specs.Oriented.{crosses, oriented_width, oriented_height}
+use Rattle.image_turns.specs.Oriented.{oriented_width, oriented_height}
 use Rattle.image_turns.specs.declared.pixel_turning.Origin.{Origin}
 use Rattle.image_turns.specs.declared.pixel_turning.RowPart.{RowPart}
 
--- two images of pixels of one cell fit, and the columns of the second become the rows of the first
-pub record AreCrosswise {T : Type 0} (cells : List T) (s : Shape) (source : List T) (from : Origin) : Type 0 where
+-- the cells of two images fit their shapes, and each is as wide as the other is high
+pub record AreCrosswise {T : Type 0} (cells : List T) (s : Shape) (source : List T) (t : Shape) : Type 0 where
   pub fits : Fits (shaped cells s)
-  pub source_fits : Fits (shaped source from.shape)
-  pub source_width : from.columns ≡ shape_width from.shape
-  pub crossed : IsTrue (crosses from.orientation)
-  pub columns : shape_width s ≡ shape_height from.shape
-  pub lines : shape_height s ≡ shape_width from.shape
+  pub source_fits : Fits (shaped source t)
+  pub columns : shape_width s ≡ shape_height t
+  pub lines : shape_height s ≡ shape_width t
 
 -- the cells of an image fit its shape, which is as wide as high
 pub record IsSquare {T : Type 0} (cells : List T) (s : Shape) : Type 0 where

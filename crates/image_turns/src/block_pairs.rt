@@ -18,7 +18,7 @@ ghost use Rattle.image_writes.specs.Written.{Becomes};
 
 use crate::blocks::read_rows;
 use crate::pixel_turning::{Orientation, Origin, orient_rows};
-use crate::turning::quarter_rows;
+use crate::turning::{CrossedShape, Crossing, quarter_rows};
 use image_shape::{Shape, Window};
 use image_writes::{exact_part, padded_part};
 
@@ -70,16 +70,20 @@ fn write_across<T: Copy, const N: usize>(
 {
     let (part, inner) = exact_part(cells.len(), shape, window);
     let count = block_shape.height();
+    // Of cells of four bytes the compiler makes vector code here alone.
+    if N == 1 {
+        let from = CrossedShape {
+            shape: block_shape,
+            crossing: Crossing::Across,
+        };
+        quarter_rows(&mut cells[part], inner, block, from);
+        return;
+    }
     let origin = Origin {
         shape: block_shape,
         columns: window.height,
         orientation: Orientation::Transposed,
     };
-    // Of cells of four bytes the compiler makes vector code here alone.
-    if N == 1 {
-        quarter_rows(&mut cells[part], inner, block, origin);
-        return;
-    }
     orient_rows::<T, N>(&mut cells[part], inner, 0, count, block, origin);
 }
 

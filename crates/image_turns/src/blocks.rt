@@ -48,7 +48,7 @@ pub(crate) fn transpose_block<T: Copy>(block: &mut [T])
 }
 
 // Which row of `height` rows is read for row `y`.
-pub(crate) fn line_read(back: bool, height: usize, y: usize) -> usize
+fn line_read(back: bool, height: usize, y: usize) -> usize
     requires there { y < height }
     ensures { result ≡ line_read back height y }
 {

@@ -4,19 +4,18 @@ ghost use Rattle.std.specs.Prelude.{◌≡◌, ◌+◌, ◌-◌, ◌*◌, ◌<�
 ghost use Rattle.image_model.specs.Layout.{Fits, SameOutside};
 ghost use Rattle.image_model.specs.Grid.{patch, view};
 ghost use Rattle.image_model.specs.Turns.{transposed, turned_half};
-ghost use Rattle.image_model.specs.Windows.{window_view, IsInside};
+ghost use Rattle.image_model.specs.Windows.{IsInside};
 ghost use Rattle.image_shape.specs.Shape.{shape_width, shape_height, shaped_grid, shaped};
 ghost use Rattle.image_shape.specs.Window.{as_window};
 ghost use Rattle.image_writes.specs.Gathered.{AreGathered};
-ghost use Rattle.image_turns.specs.Oriented.{crosses, oriented, oriented_width, oriented_height, reads_back, source_window, writes_back};
+ghost use Rattle.image_turns.specs.Quarters.{quartered, first_column, first_row, reads_back, writes_back};
 ghost use Rattle.image_turns.specs.Turned.{turned, turned_width, turned_height};
 ghost use Rattle.image_turns.specs.Sizes.{AreCrosswise};
 ghost use Rattle.image_writes.specs.Written.{Becomes, HaveSameSize};
 
 use crate::bands::{copied_columns, quarter_copied};
-use crate::blocks::{block_shape, line_read, read_rows, transpose_block};
+use crate::blocks::{block_shape, read_rows, transpose_block};
 use crate::near::rows_near;
-use crate::pixel_turning::{Orientation, Origin};
 use image_flips::copy_back;
 use image_rows::row;
 use image_shape::{Shape, Window};
@@ -70,97 +69,85 @@ pub enum Turn {
     Left,
 }
 
+// How columns become rows.
+#[derive(Clone, Copy)]
+pub(crate) enum Crossing {
+    // The first column becomes the first row: the image is transposed.
+    Across,
+    // The first row becomes the last column.
+    Right,
+    // The first row becomes the first column, from the bottom.
+    Left,
+}
+
+// The shape of a source, and how its columns become rows.
+#[derive(Clone, Copy)]
+pub(crate) struct CrossedShape {
+    pub(crate) shape: Shape,
+    pub(crate) crossing: Crossing,
+}
+
 // Every pixel of `shape` in `cells` becomes the pixel of the source whose columns are rows, row by
 // row.
 #[inline(always)]
-#[tactic(auto, using(crate::proofs::Quarters::crossing))]
-pub(crate) fn quarter_rows<T: Copy>(cells: &mut [T], shape: Shape, source: &[T], origin: Origin)
-    requires { AreCrosswise cells.old shape source.now origin }
+pub(crate) fn quarter_rows<T: Copy>(cells: &mut [T], shape: Shape, source: &[T], from: CrossedShape)
+    requires { AreCrosswise cells.old shape source.now from.shape }
     ensures { Becomes shape cells.old cells.new
-        (oriented 1 origin.orientation (shaped_grid source.now origin.shape)) }
+        (quartered from.crossing (shaped_grid source.now from.shape)) }
 {
     for y in 0..shape.row_count() {
         let place = shape.row(cells.len(), y);
         let target = &mut cells[place.range()];
-        let column = line_read(writes_back(origin.orientation), origin.columns, y);
-        if reads_back(origin.orientation) {
-            let last = origin.shape.row(source.len(), origin.shape.height() - 1);
-            gather_back(target, source, last.start + column, origin.shape.stride());
+        let column = first_column(from.crossing, from.shape.width(), y, 1);
+        if reads_back(from.crossing) {
+            let last = from.shape.row(source.len(), from.shape.height() - 1);
+            gather_back(target, source, last.start + column, from.shape.stride());
         } else {
-            gather(target, source, column, origin.shape.stride());
+            gather(target, source, column, from.shape.stride());
         }
     }
 }
 
-// Whether a block is read from its last row on, before it is transposed.
-fn reads_back(orientation: Orientation) -> bool
-    ensures { result ≡ reads_back orientation }
+// The first of the `width` rows of a source of `height` rows that the columns from `left` on get.
+fn first_row(crossing: Crossing, height: usize, left: usize, width: usize) -> usize
+    requires there { left + width ≤ height }
+    ensures { result ≡ first_row crossing height left width }
 {
-    matches!(orientation, Orientation::Right)
-}
-
-// Whether it is written from its last row on, after that.
-fn writes_back(orientation: Orientation) -> bool
-    ensures { result ≡ writes_back orientation }
-{
-    matches!(orientation, Orientation::Left)
-}
-
-// The window of the source that a window of the image shows.
-#[inline(always)]
-fn source_window(origin: Origin, shown: Window) -> Window
-    requires inside { IsInside
-        (oriented_width origin.orientation origin.columns (shape_height origin.shape))
-        (oriented_height origin.orientation origin.columns (shape_height origin.shape))
-        (as_window shown) }
-    ensures { as_window result ≡ source_window origin.orientation origin.columns
-        (shape_height origin.shape) (as_window shown) }
-{
-    let Window {
-        left,
-        top,
-        width,
-        height,
-    } = shown;
-    let (columns, rows) = (origin.columns, origin.shape.height());
-    match origin.orientation {
-        Orientation::Transposed => Window::new(top, left, height, width),
-        Orientation::Right => Window::new(top, rows - left - width, height, width),
-        Orientation::Half => {
-            Window::new(columns - left - width, rows - top - height, width, height)
-        }
-        Orientation::Left => Window::new(columns - top - height, left, height, width),
+    match crossing {
+        Crossing::Right => height - left - width,
+        Crossing::Across | Crossing::Left => left,
     }
 }
 
-// The part of the source that a window of the image shows, and where the window's pixels come from.
-#[inline(always)]
-#[tactic(auto, using(crate::proofs::Quarters::crossing))]
-pub(crate) fn shown_part<T>(source: &[T], origin: Origin, shown: Window) -> (&[T], Origin)
-    requires fits { Fits (shaped source.now origin.shape) }
-    requires source_width { origin.columns ≡ shape_width origin.shape }
-    requires crossed { IsTrue (crosses origin.orientation) }
-    requires wide { shown.left + shown.width ≤ shape_height origin.shape }
-    requires high { shown.top + shown.height ≤ shape_width origin.shape }
-    ensures fits { Fits (shaped result.0.now result.1.shape) }
-    ensures source_width { result.1.columns ≡ shape_width result.1.shape }
-    ensures crossed { IsTrue (crosses result.1.orientation) }
-    ensures columns { shape_height result.1.shape ≡ shown.width }
-    ensures lines { shape_width result.1.shape ≡ shown.height }
-    ensures shows { oriented 1 result.1.orientation (shaped_grid result.0.now result.1.shape)
-        ≡ window_view (oriented 1 origin.orientation (shaped_grid source.now origin.shape))
-        (as_window shown) }
+// The first of the `height` columns of a source of `width` columns that the rows from `top` on get.
+pub(crate) fn first_column(crossing: Crossing, width: usize, top: usize, height: usize) -> usize
+    requires there { top + height ≤ width }
+    ensures { result ≡ first_column crossing width top height }
 {
-    let (part, shape) = padded_part(source, origin.shape, source_window(origin, shown));
-    let columns = shown.height;
-    (
-        part,
-        Origin {
-            shape,
-            columns,
-            ..origin
-        },
-    )
+    match crossing {
+        Crossing::Left => width - top - height,
+        Crossing::Across | Crossing::Right => top,
+    }
+}
+
+// Whether a block is read from its last row on.
+fn reads_back(crossing: Crossing) -> bool
+    ensures { result ≡ reads_back crossing }
+{
+    match crossing {
+        Crossing::Right => true,
+        Crossing::Across | Crossing::Left => false,
+    }
+}
+
+// Whether it is written from its last row on.
+fn writes_back(crossing: Crossing) -> bool
+    ensures { result ≡ writes_back crossing }
+{
+    match crossing {
+        Crossing::Left => true,
+        Crossing::Across | Crossing::Right => false,
+    }
 }
 
 // The 16 by 16 pixels from column `left` of row `top` on become those that the source shows there;
@@ -171,38 +158,54 @@ fn quarter_at<T: Copy>(
     left: usize,
     top: usize,
     source: &[T],
-    origin: Origin,
+    from: CrossedShape,
 )
-    requires sizes { AreCrosswise cells.old shape source.now origin }
+    requires sizes { AreCrosswise cells.old shape source.now from.shape }
     requires wide { left + 16 ≤ shape_width shape }
     requires high { top + 16 ≤ shape_height shape }
     ensures { Becomes shape cells.old cells.new (patch (shaped_grid cells.old shape) left top
-        (view (oriented 1 origin.orientation (shaped_grid source.now origin.shape))
-        left top 16 16)) }
+        (view (quartered from.crossing (shaped_grid source.now from.shape)) left top 16 16)) }
 {
-    let place = Window::new(left, top, 16, 16);
-    let (seen, from) = shown_part(source, origin, place);
+    let column = first_column(from.crossing, from.shape.width(), top, 16);
+    let line = first_row(from.crossing, from.shape.height(), left, 16);
+    let place = Window::new(column, line, 16, 16);
+    let (seen, seen_shape) = padded_part(source, from.shape, place);
     let square = block_shape();
     let mut block = [seen[0]; 256];
-    let back = reads_back(from.orientation);
-    read_rows::<T, 16>(block.as_mut_slice(), square, seen, from.shape, back);
+    read_rows::<T, 16>(
+        block.as_mut_slice(),
+        square,
+        seen,
+        seen_shape,
+        reads_back(from.crossing),
+    );
     transpose_block(block.as_mut_slice());
-    let (part, inner) = exact_part(cells.len(), shape, place);
+    let (part, inner) = exact_part(cells.len(), shape, Window::new(left, top, 16, 16));
     let target = &mut cells[part];
-    let back = writes_back(from.orientation);
-    read_rows::<T, 16>(target, inner, block.as_slice(), square, back);
+    read_rows::<T, 16>(
+        target,
+        inner,
+        block.as_slice(),
+        square,
+        writes_back(from.crossing),
+    );
 }
 
 // Every pixel of `shape` in `cells` becomes the pixel of the source whose columns are rows, block
 // by block. Where a last block would be cut off, it begins earlier: what is written twice is the
 // same. It isn't inlined, so that rows of other images take no longer than without it.
 #[inline(never)]
-pub(crate) fn quarter_blocks<T: Copy>(cells: &mut [T], shape: Shape, source: &[T], origin: Origin)
-    requires sizes { AreCrosswise cells.old shape source.now origin }
+pub(crate) fn quarter_blocks<T: Copy>(
+    cells: &mut [T],
+    shape: Shape,
+    source: &[T],
+    from: CrossedShape,
+)
+    requires sizes { AreCrosswise cells.old shape source.now from.shape }
     requires wide { 16 ≤ shape_width shape }
     requires high { 16 ≤ shape_height shape }
     ensures { Becomes shape cells.old cells.new
-        (oriented 1 origin.orientation (shaped_grid source.now origin.shape)) }
+        (quartered from.crossing (shaped_grid source.now from.shape)) }
 {
     let (width, height) = (shape.width(), shape.height());
     let mut top = 0;
@@ -211,7 +214,7 @@ pub(crate) fn quarter_blocks<T: Copy>(cells: &mut [T], shape: Shape, source: &[T
         let mut left = 0;
         while left < width {
             let column = left.min(width - 16);
-            quarter_at(cells, shape, column, line, source, origin);
+            quarter_at(cells, shape, column, line, source, from);
             left += 16;
         }
         top += 16;
@@ -289,26 +292,33 @@ fn strip_columns<T>(source: &[T], stride: usize, shape: Shape) -> (usize, bool)
 // columns at a time; the padding stays. It isn't inlined, so that small images take no longer than
 // without it.
 #[inline(never)]
-fn quarter_strips<T: Copy>(cells: &mut [T], shape: Shape, source: &[T], origin: Origin)
-    requires { AreCrosswise cells.old shape source.now origin }
+fn quarter_strips<T: Copy>(cells: &mut [T], shape: Shape, source: &[T], from: CrossedShape)
+    requires { AreCrosswise cells.old shape source.now from.shape }
     ensures { Becomes shape cells.old cells.new
-        (oriented 1 origin.orientation (shaped_grid source.now origin.shape)) }
+        (quartered from.crossing (shaped_grid source.now from.shape)) }
 {
-    let (most, is_copied) = strip_columns(source, origin.shape.stride(), shape);
+    let (most, is_copied) = strip_columns(source, from.shape.stride(), shape);
     let (columns, lines) = (shape.width(), shape.height());
+    let (source_width, source_height) = (from.shape.width(), from.shape.height());
     let mut left = 0;
     while left < columns {
         let width = most.min(columns - left);
+        let top = first_row(from.crossing, source_height, left, width);
+        let rows = Window::new(0, top, source_width, width);
+        let (part, part_shape) = padded_part(source, from.shape, rows);
+        let part_from = CrossedShape {
+            shape: part_shape,
+            crossing: from.crossing,
+        };
         let strip = Window::new(left, 0, width, lines);
-        let (part, from) = shown_part(source, origin, strip);
         let (cut, inner) = exact_part(cells.len(), shape, strip);
         let target = &mut cells[cut];
         if is_copied {
-            quarter_copied(target, inner, part, from);
+            quarter_copied(target, inner, part, part_from);
         } else if blocks_pay(part, inner) {
-            quarter_blocks(target, inner, part, from);
+            quarter_blocks(target, inner, part, part_from);
         } else {
-            quarter_rows(target, inner, part, from);
+            quarter_rows(target, inner, part, part_from);
         }
         left += width;
     }
@@ -322,27 +332,22 @@ fn quarter_pixels<T: Copy>(
     shape: Shape,
     source: &[T],
     source_shape: Shape,
-    orientation: Orientation,
+    crossing: Crossing,
 )
-    requires fits { Fits (shaped cells.old shape) }
-    requires source_fits { Fits (shaped source.now source_shape) }
-    requires columns { shape_width shape ≡ shape_height source_shape }
-    requires lines { shape_height shape ≡ shape_width source_shape }
-    requires crossed { IsTrue (crosses orientation) }
+    requires { AreCrosswise cells.old shape source.now source_shape }
     ensures { Becomes shape cells.old cells.new
-        (oriented 1 orientation (shaped_grid source.now source_shape)) }
+        (quartered crossing (shaped_grid source.now source_shape)) }
 {
-    let origin = Origin {
+    let from = CrossedShape {
         shape: source_shape,
-        columns: source_shape.width(),
-        orientation,
+        crossing,
     };
     if !is_near(source) {
-        quarter_strips(cells, shape, source, origin);
+        quarter_strips(cells, shape, source, from);
     } else if blocks_pay(source, shape) {
-        quarter_blocks(cells, shape, source, origin);
+        quarter_blocks(cells, shape, source, from);
     } else {
-        quarter_rows(cells, shape, source, origin);
+        quarter_rows(cells, shape, source, from);
     }
 }
 
@@ -357,7 +362,7 @@ pub fn transpose_pixels<T: Copy>(cells: &mut [T], shape: Shape, source: &[T], so
     ensures grid { shaped_grid cells.new shape ≡ transposed (shaped_grid source.now source_shape) }
     ensures outside { SameOutside (shaped cells.old shape) (shaped cells.new shape) }
 {
-    quarter_pixels(cells, shape, source, source_shape, Orientation::Transposed);
+    quarter_pixels(cells, shape, source, source_shape, Crossing::Across);
 }
 
 // Each cell becomes a cell of the source, which is as long, from its last one on. It is a long row, in
@@ -431,8 +436,8 @@ pub fn turn_pixels<T: Copy>(
     ensures outside { SameOutside (shaped cells.old shape) (shaped cells.new shape) }
 {
     match turn {
-        Turn::Right => quarter_pixels(cells, shape, source, source_shape, Orientation::Right),
+        Turn::Right => quarter_pixels(cells, shape, source, source_shape, Crossing::Right),
         Turn::Half => half_pixels(cells, shape, source, source_shape),
-        Turn::Left => quarter_pixels(cells, shape, source, source_shape, Orientation::Left),
+        Turn::Left => quarter_pixels(cells, shape, source, source_shape, Crossing::Left),
     }
 }

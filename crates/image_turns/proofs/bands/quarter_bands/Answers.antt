@@ -1,7 +1,6 @@
 -- One band more, and all rows.
 use Rattle.std.proofs.Common.{◌+◌, ◌∙◌, arith}
-use Rattle.image_turns.proofs.Quarters.{as_oriented, before_rows}
-use Rattle.image_turns.proofs.Oriented.{becomes_oriented}
+use Rattle.image_turns.proofs.Quarters.{before_rows, becomes_quartered}
 use Rattle.image_turns.proofs.Windowed.{shows_more}
 use Rattle.image_turns.proofs.bands.quarter_bands.Goals as goal
 
@@ -15,4 +14,4 @@ loop-top-preserved g c =
     )
 
 pub returns : goal.returns
-returns g c = becomes_oriented (as_oriented c.requires.sizes) c.loop-top.invariant.0 (λ x y column line. omega (arith, line, c.loop-top-test.false, c.height-height.ensures.value))
+returns g c = becomes_quartered c.args.from.crossing c.requires.sizes c.loop-top.invariant.0 (λ x y column line. omega (arith, line, c.loop-top-test.false, c.height-height.ensures.value))

@@ -1,7 +1,6 @@
 -- One block more, and all blocks.
 use Rattle.std.proofs.Common.{◌-◌, ap, ◌∙◌, arith, inl, min}
-use Rattle.image_turns.proofs.Quarters.{as_oriented, before_block}
-use Rattle.image_turns.proofs.Oriented.{becomes_oriented}
+use Rattle.image_turns.proofs.Quarters.{before_block, becomes_quartered}
 use Rattle.image_turns.proofs.Windowed.{shows_more}
 use Rattle.image_turns.proofs.turning.quarter_blocks.Goals as goal
 
@@ -13,4 +12,4 @@ loop-left-preserved g c =
     shows_more c.loop-left.invariant _ _ 16 16 c.quarter_at.ensures (λ x y column line. before_block s.width s.height _ _ _ _ x y is_column is_line column line c.requires.wide c.requires.high)
 
 pub returns : goal.returns
-returns g c = becomes_oriented (as_oriented c.requires.sizes) c.loop-top.invariant (λ x y column line. inl (omega (arith, line, c.loop-top-test.false, c.height-height.ensures.value)))
+returns g c = becomes_quartered c.args.from.crossing c.requires.sizes c.loop-top.invariant (λ x y column line. inl (omega (arith, line, c.loop-top-test.false, c.height-height.ensures.value)))
