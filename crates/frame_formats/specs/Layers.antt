@@ -93,7 +93,9 @@ down_of Alpha = 1
 down_of (Samples x y) = y
 
 abbrev pub window_on : Layer → ℕ → ℕ → Window → Option Window
-window_on layer width height w = window_under (across_of layer) (down_of layer) width height w
+window_on Pixels width height w = Some w
+window_on Alpha width height w = Some w
+window_on (Samples x y) width height w = window_under x y width height w
 
 -- what a change of pixels is to the plane: means are those of its samples, and so are blurs
 unfoldable pub change_on : Pixel → Layer → ℕ → ℕ → Change Paint → Option (Change (List ℕ))

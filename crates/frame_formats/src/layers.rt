@@ -5,7 +5,7 @@ ghost use Rattle.std.specs.Prelude.{◌≡◌, ◌≢◌, ◌<◌, All, map, Som
 ghost use Rattle.std.specs.Option.{option_map};
 ghost use Rattle.image_planes.specs.Planes.{job_of};
 ghost use Rattle.image_planes.specs.Targets.{resizing_of};
-ghost use Rattle.frame_formats.specs.Layers.{StandsForPixels, picture_pixel, picture_layers, video_layers, layer_width, layer_height, across_of, down_of, opaque_resize, value_on, change_on, job_on, jobs_on, StartsOn, resizing_on, resizings_on};
+ghost use Rattle.frame_formats.specs.Layers.{StandsForPixels, picture_pixel, picture_layers, video_layers, layer_width, layer_height, across_of, down_of, opaque_resize, value_on, window_on, change_on, job_on, jobs_on, StartsOn, resizing_on, resizings_on};
 ghost use Rattle.frame_formats.specs.Plan.{Tells};
 ghost use Rattle.frame_formats.specs.Steps.{StartsWell, first_made, step_by};
 
@@ -124,6 +124,17 @@ fn shared_by(layer: Layer) -> (usize, usize)
     }
 }
 
+// The window of the plane under one of a frame of this size.
+fn window_on(layer: Layer, width: usize, height: usize, window: Window) -> Option<Window>
+    requires { StandsForPixels layer }
+    ensures { result ≡ window_on layer width height window }
+{
+    match layer {
+        Layer::Pixels | Layer::Alpha => Some(window),
+        Layer::Samples(x, y) => window_of_samples(x, y, width, height, window),
+    }
+}
+
 /// What a change of the pixels of a frame of this size is to the plane. `None` for a value that these
 /// pixels lack, and where edges aren't those of samples. Means are those of samples, and so are blurs.
 #[tactic(auto, unfolding(crate::specs::Layers::change_on))]
@@ -143,7 +154,7 @@ pub(crate) fn change_on(
         Change::Fill { window, value } => {
             let value = value_in(pixel, value)?;
             Some(Change::Fill {
-                window: window_of_samples(x, y, width, height, window)?,
+                window: window_on(layer, width, height, window)?,
                 value: value_on(pixel, layer, value),
             })
         }
@@ -152,7 +163,7 @@ pub(crate) fn change_on(
             tile_width,
             tile_height,
         } => Some(Change::Mosaic {
-            window: window_of_samples(x, y, width, height, window)?,
+            window: window_on(layer, width, height, window)?,
             tile_width: whole_samples(x, tile_width)?,
             tile_height: whole_samples(y, tile_height)?,
         }),
@@ -162,7 +173,7 @@ pub(crate) fn change_on(
             tile_height,
             bytes: _,
         } => Some(Change::Mean {
-            window: window_of_samples(x, y, width, height, window)?,
+            window: window_on(layer, width, height, window)?,
             tile_width: whole_samples(x, tile_width)?,
             tile_height: whole_samples(y, tile_height)?,
             bytes,
@@ -173,15 +184,15 @@ pub(crate) fn change_on(
             down,
             bytes: _,
         } => Some(Change::Blur {
-            window: window_of_samples(x, y, width, height, window)?,
+            window: window_on(layer, width, height, window)?,
             across: count_samples(across, x),
             down: count_samples(down, y),
             bytes,
         }),
         Change::Move { window, left, top } => {
-            let under = window_of_samples(x, y, width, height, window)?;
+            let under = window_on(layer, width, height, window)?;
             let goal = Window::new(left, top, window.width, window.height);
-            let goal = window_of_samples(x, y, width, height, goal)?;
+            let goal = window_on(layer, width, height, goal)?;
             Some(Change::Move {
                 window: under,
                 left: goal.left,

@@ -377,9 +377,6 @@ module _ (laws : Laws) (edit : Edits) (mine theirs : List ℕ) (a : Alike edit m
       let r = read_too (λ bytes. Unit {0}) (λ p q l m is it same end. tt) (λ cut end. tt) (many_kind laws edit mine n (Some l) v.shapes some v.reads) n l v.shapes v.reads in
       (Some r.left, record { shapes = v.shapes; reads = r.reads; sees = v.sees; last = v.last })
 
-  no_more : ℕ → List ℕ → Type 0
-  no_more n bytes = (n ≡ 18446744073709551615) ⊎ IsNoPicture bytes
-
   last_too : (n : ℕ) (s : Seen) → SeesLast edit n (Some mine) s → SeesLast edit n (Some theirs) s
   last_too n s v = by v.left v.see v.none
     where

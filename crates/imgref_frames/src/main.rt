@@ -252,17 +252,13 @@ impl Call<'_> {
 
     // Prints the fault of a run, and what is known of its edits.
     fn tell(&self, fault: RunFault, seen: &Seen, source: &Source, sink: &Sink) {
-        match fault {
-            RunFault::Input => {
-                self.say_device(fault, source.failure());
-                self.note_covers(seen, seen.last().saturating_add(1));
-            }
-            RunFault::Output => {
-                self.say_device(fault, sink.failure());
-                self.note_covers(seen, seen.last().saturating_add(1));
-            }
-            _ => self.tell_early(fault, seen, source.front()),
-        }
+        let cause = match fault {
+            RunFault::Input => source.failure(),
+            RunFault::Output => sink.failure(),
+            _ => return self.tell_early(fault, seen, source.front()),
+        };
+        self.say_device(fault, cause);
+        self.note_covers(seen, seen.last().saturating_add(1));
     }
 
     // Prints a fault of what the input has, and what is known of its edits.
@@ -436,10 +432,7 @@ fn name_at(words: &[String], at: Option<usize>) -> Option<&str> {
 // The text of the file with the name at this place, where there is one.
 fn text_at(rt: &HostRuntime, words: &[String], at: Option<usize>) -> io::Result<Option<Vec<u8>>> {
     match name_at(words, at) {
-        Some(name) => match read_whole(rt, name) {
-            Ok(text) => Ok(Some(text)),
-            Err(error) => Err(error),
-        },
+        Some(name) => Ok(Some(read_whole(rt, name)?)),
         None => Ok(None),
     }
 }
@@ -522,15 +515,13 @@ fn edit(rt: &HostRuntime, options: Options, words: &[String], bytes: &[&[u8]]) -
         hold: options.hold,
         edits: text.as_deref(),
     };
-    let first = options.first.min(bytes.len());
-    let words_left = &bytes[first..];
-    let (boxes, file) = (texts.boxes, texts.edits);
+    let words_left = &bytes[options.first.min(bytes.len())..];
     match edits_asked(
         rt.alloc(),
         style_of(options),
-        boxes,
+        texts.boxes,
         texts.hold,
-        file,
+        texts.edits,
         words_left,
     ) {
         Ok(edits) => carry(rt, options, words, &edits, texts),
