@@ -50,7 +50,7 @@ def weight(name):
 # A share that the weights don't move grows so many times more slowly than one that they do.
 CREEPS = 4
 # So many seconds pass for one of a plan before anything is learnt, and that counts as much as so many seconds of a plan.
-PACE, KNOWN = 1.0, 60
+PACE, KNOWN = 0.9, 60
 # In the log of proofs, the name of a line that says how many processors were busy.
 CORES = "cores"
 
