@@ -73,7 +73,7 @@ PRODUCT = ("imgref_run", "imgref_frames", "imgref_c")
 # What goes over a part of the product alone begins once that is proved: the last proofs leave processors idle.
 OVER = {"bindings.py": "imgref_c", "scripts.py": "imgref_run", "worked_scripts.py": "imgref_run", "memory_limits.py": "imgref_run"}
 # What each takes from nothing on four processors, in minutes.
-MINUTES = {"test": 45, "gate": 90, "check": 45}
+MINUTES = {"test": 25, "gate": 90, "check": 45}
 # What is shown of a long part while it goes on: each proof that has ended, and what failed.
 ENDED = re.compile(r"== (\w+(?:: its tests)?)(?:: passed)?$")
 # Proof progress, of which a line is shown now and then.
