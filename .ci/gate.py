@@ -60,7 +60,7 @@ GOES_OVER = {
     "row_mover_privacy.py": ("row_mover",),
     "retried_calls.py": ("imgref_run",),
     "second_build.py": ("imgref_run", "imgref_frames"),
-    "strides.py": ("bench_calls",),
+    "strides.py": ("bench_strides",),
 }
 # These run programs that only the proofs of the gate make. What needs none of these goes beside the proofs of a landing.
 OF_ALL_PROOFS = ("instructions.py", "refused_growths.py", "second_build.py", "strides.py")

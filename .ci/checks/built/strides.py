@@ -2,7 +2,7 @@
 """Counts the misses in the nearest cache while squares are turned and transposed, at friendly strides and others.
 
 At a stride near a multiple of 4096 bytes, or of a large part of it, rows share few sets of a cache. A turn may then have so many
-misses as a table here says, beside those at a stride of 4160. Each is done by the program bench_calls in valgrind's model of a
+misses as a table here says, beside those at a stride of 4160. Each is done by the program bench_strides in valgrind's model of a
 cache of 32 KiB with eight lines in a set: so a count hardly depends on the machine. Without valgrind the cases are skipped.
 """
 import concurrent.futures
@@ -35,7 +35,7 @@ MISSES = re.compile(r"\bD\d +misses: +([\d,]+)")
 
 def misses(program, action, pixel, stride):
     """The misses of one run."""
-    words = [*MODEL, program, "strides", action, str(pixel), str(SIDES[pixel]), str(stride)]
+    words = [*MODEL, program, action, str(pixel), str(SIDES[pixel]), str(stride)]
     said = subprocess.run(words, check=True, capture_output=True, text=True).stderr
     return int(MISSES.search(said)[1].replace(",", ""))
 
@@ -53,8 +53,8 @@ def of_pixels(cases, pool, program, pixel):
 
 def main():
     cases = Cases()
-    programs = built("bench_calls", ("",))
-    cases.count("the build of bench_calls is there", programs, "crates/bench_calls/out lacks it, or it is older than its sources")
+    programs = built("bench_strides", ("",))
+    cases.count("the build of bench_strides is there", programs, "crates/bench_strides/out lacks it, or it is older than its sources")
     if cases.lacks("the misses of turns", "valgrind", number=3 * len(SIDES)):
         return cases.end()
     with concurrent.futures.ThreadPoolExecutor(len(os.sched_getaffinity(0))) as pool:

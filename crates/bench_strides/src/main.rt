@@ -3,15 +3,29 @@
 //!
 //! Its words are what to do, the bytes of a pixel, the side in pixels, and the bytes from a row to
 //! the next one. It prints the number of pixels.
+#![tactic(auto)]
 
 ghost use Rattle.std.specs.Prelude.{◌≡◌, IfOk};
 ghost use Rattle.image_model.specs.Layout.{Fits};
 ghost use Rattle.imgref.specs.Image.{width_of, height_of, vec_layout};
 
-use crate::Fault;
 use imgref::{ImgVec, Turn};
-use std::alloc::Global;
+use std::alloc::{AllocError, Global};
 use std::env;
+use std::process::ExitCode;
+
+// Why nothing was turned.
+#[derive(Drop)]
+enum Fault {
+    Words,
+    Memory,
+}
+
+impl From<AllocError> for Fault {
+    fn from(_e: AllocError) -> Fault {
+        Fault::Memory
+    }
+}
 
 // What the words say.
 #[derive(Drop)]
@@ -22,13 +36,11 @@ struct Words {
     stride: usize,
 }
 
-// The words after `strides`.
 fn read_words(rt: &HostRuntime) -> Result<Words, Fault> {
     let Ok(mut words) = env::args(rt) else {
         return Err(Fault::Words);
     };
-    let (Some(_), Some(_), Some(action), Some(pixel), Some(side), Some(stride)) = (
-        words.next(),
+    let (Some(_), Some(action), Some(pixel), Some(side), Some(stride)) = (
         words.next(),
         words.next(),
         words.next(),
@@ -79,7 +91,7 @@ fn act<T: Copy>(alloc: Global, pixel: T, words: &Words) -> Result<(), Fault> {
     Ok(())
 }
 
-pub(crate) fn run(rt: &HostRuntime) -> Result<(), Fault> {
+fn run(rt: &HostRuntime) -> Result<usize, Fault> {
     let words = read_words(rt)?;
     match words.pixel {
         1 => act(rt.alloc(), 0u8, &words)?,
@@ -90,7 +102,19 @@ pub(crate) fn run(rt: &HostRuntime) -> Result<(), Fault> {
         16 => act(rt.alloc(), [0u64; 2], &words)?,
         _ => return Err(Fault::Words),
     }
-    let pixels = words.side.wrapping_mul(words.side);
-    println!(rt; "{pixels}")?;
-    Ok(())
+    Ok(words.side.wrapping_mul(words.side))
+}
+
+fn main(rt: HostRuntime) -> ExitCode {
+    let printed = match run(&rt) {
+        Ok(pixels) => println!(rt; "{pixels}"),
+        Err(Fault::Words) => println!(rt;
+            "words: what to do, bytes of a pixel, side, bytes of a row"
+        ),
+        Err(Fault::Memory) => println!(rt; "out of memory"),
+    };
+    match printed {
+        Ok(()) => ExitCode::SUCCESS,
+        Err(_) => ExitCode::FAILURE,
+    }
 }

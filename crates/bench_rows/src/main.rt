@@ -4,16 +4,44 @@
 //! of columns. Then come how many calls are timed at once, and how often. It prints a line for each
 //! width and padding: the call, the bytes, the columns and the padding in pixels. The last word is
 //! the least time of a call in picoseconds.
+#![tactic(auto)]
 
 ghost use Rattle.std.specs.Prelude.{◌≡◌};
 
-use crate::Fault;
 use image_ops::{are_equal, copy_pixels, fill_pixels, joined_clones};
 use image_shape::{Shape, Window};
 use row_mover::{join_rows, move_pixels};
-use std::alloc::Global;
-use std::env;
+use std::alloc::{AllocError, AllocFailed, Global};
+use std::process::ExitCode;
 use std::time::Instant;
+use std::{env, io};
+
+// Why nothing was timed.
+#[derive(Drop)]
+enum Fault {
+    Help,
+    Words,
+    Memory,
+    Device,
+}
+
+impl From<AllocError> for Fault {
+    fn from(_e: AllocError) -> Fault {
+        Fault::Memory
+    }
+}
+
+impl From<AllocFailed<()>> for Fault {
+    fn from(_e: AllocFailed<()>) -> Fault {
+        Fault::Memory
+    }
+}
+
+impl From<io::Error> for Fault {
+    fn from(_e: io::Error) -> Fault {
+        Fault::Device
+    }
+}
 
 // A call that is timed.
 #[derive(Clone, Copy)]
@@ -49,16 +77,17 @@ fn read_call(word: &str) -> Result<Call, Fault> {
         "equal" => Ok(Call::Equal),
         "pack" => Ok(Call::Pack),
         "clones" => Ok(Call::Clones),
+        "--help" => Err(Fault::Help),
         _ => Err(Fault::Words),
     }
 }
 
-// The words after `widths`.
+// The words after the name of the program.
 fn read_words(rt: &HostRuntime) -> Result<Words, Fault> {
     let Ok(mut words) = env::args(rt) else {
         return Err(Fault::Words);
     };
-    let (Some(_), Some(_), Some(name)) = (words.next(), words.next(), words.next()) else {
+    let (Some(_), Some(name)) = (words.next(), words.next()) else {
         return Err(Fault::Words);
     };
     let call = read_call(&name)?;
@@ -215,7 +244,7 @@ fn time_each<T: Copy + PartialEq>(rt: &HostRuntime, words: &Words, pixel: T) -> 
     Ok(())
 }
 
-pub(crate) fn run(rt: &HostRuntime) -> Result<(), Fault> {
+fn run(rt: &HostRuntime) -> Result<(), Fault> {
     let words = read_words(rt)?;
     match words.pixel {
         1 => time_each(rt, &words, 0u8),
@@ -225,5 +254,25 @@ pub(crate) fn run(rt: &HostRuntime) -> Result<(), Fault> {
         8 => time_each(rt, &words, 0u64),
         16 => time_each(rt, &words, [0u64; 2]),
         _ => Err(Fault::Words),
+    }
+}
+
+fn main(rt: HostRuntime) -> ExitCode {
+    let words = "words: call, bytes, rows, columns from and to, calls, rounds";
+    let printed = match run(&rt) {
+        Ok(()) => return ExitCode::SUCCESS,
+        Err(Fault::Help) => {
+            return match println!(rt; "{words}") {
+                Ok(()) => ExitCode::SUCCESS,
+                Err(_) => ExitCode::FAILURE,
+            };
+        }
+        Err(Fault::Words) => println!(rt; "{words}"),
+        Err(Fault::Memory) => println!(rt; "out of memory"),
+        Err(Fault::Device) => println!(rt; "the clock or the output failed"),
+    };
+    match printed {
+        Ok(()) => ExitCode::FAILURE,
+        Err(_) => ExitCode::FAILURE,
     }
 }
