@@ -6,7 +6,7 @@ import collections
 import dataclasses
 import pathlib
 
-from functions import function_at, function_names, proof_folder
+from functions import first_above, function_at, function_names, proof_folder
 
 # So many bugs are tried in one check: more would cost more to try again where one of them can't be read.
 MOST = 24
@@ -123,12 +123,10 @@ def lines_of(text, name, function):
     names = function_names(text)
     at = [it for it, found in names if found == name]
     start = at[function.number] if len(at) > function.number else at[0]
-    after = next((it for it, _ in names if it > start), len(text.split("\n")))
     lines = text.split("\n")
+    after = next((it for it, _ in names if it > start), len(lines))
     # (a goal of the whole function is told at its first attribute)
-    while start and lines[start - 1].strip().startswith(("#[", "//")):
-        start -= 1
-    return start + 1, after
+    return first_above(lines, start) + 1, first_above(lines, after)
 
 
 def copied_proofs(crate, bug):

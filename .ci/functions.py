@@ -51,6 +51,14 @@ def function_names(text):
     return [(it.line, it.name) for it, _ in functions(text)]
 
 
+def first_above(lines, line, marks=("#[", "//")):
+    """The first of the lines right above a line, from 0, that begin with one of these marks: attributes and comments. Without one the
+    line itself."""
+    while line and lines[line - 1].strip().startswith(marks):
+        line -= 1
+    return line
+
+
 def function_at(text, part):
     """The function that has a part of the text, or None where no function has it."""
     lines, at = text.split("\n"), text[: text.index(part)].count("\n")
@@ -58,9 +66,7 @@ def function_at(text, part):
     if not before:
         return None
     found, block = before[-1]
-    name, start = found.name, found.line
-    while start and lines[start - 1].strip().startswith("#["):
-        start -= 1
+    name, start = found.name, first_above(lines, found.line, ("#[",))
     number = sum(it.name == name for it, _ in before) - 1
     body = "\n".join(lines[found.line + 1 : found.end])
     is_unique = any(UNIQUE.match(it) for it in lines[start : found.line]) or at >= found.end
@@ -72,10 +78,7 @@ def span_of(text, name):
     found = next((it for it, _ in functions(text) if it.name == name), None)
     if found is None:
         raise ValueError(f"error: there is no function {name}")
-    lines, start = text.split("\n"), found.line
-    while start and lines[start - 1].strip().startswith(("#[", "//")):
-        start -= 1
-    return start, found.end
+    return first_above(text.split("\n"), found.line), found.end
 
 
 def with_function(text, name, change):

@@ -73,7 +73,7 @@ PRODUCT = ("imgref_run", "imgref_frames", "imgref_c")
 # What goes over a part of the product alone begins once that is proved: the last proofs leave processors idle.
 OVER = {"bindings.py": "imgref_c", "scripts.py": "imgref_run", "worked_scripts.py": "imgref_run", "memory_limits.py": "imgref_run"}
 # What each takes from nothing on four processors, in minutes.
-MINUTES = {"test": 25, "gate": 90, "check": 45}
+MINUTES = {"test": 27, "gate": 150, "check": 45}
 # What is shown of a long part while it goes on: each proof that has ended, and what failed.
 ENDED = re.compile(r"== (\w+(?:: its tests)?)(?:: passed)?$")
 # Proof progress, of which a line is shown now and then.
@@ -135,7 +135,7 @@ class Part:
         log = LOGS / f"{self.name.replace(' ', '_')}.log"
         how = {"stdin": subprocess.DEVNULL, "stdout": subprocess.PIPE, "stderr": subprocess.STDOUT, "text": True, "errors": "replace"}
         # (a session of its own, by which its memory is counted)
-        with started(["nice", "-n", self.nice, *self.command], in_session=True, cwd=self.at, **how) as self.process, open(log, "w", encoding="utf-8") as kept:
+        with started(["nice", "-n", self.nice, *self.command], in_session=True, cwd=self.at, **how) as self.process, open(log, "w", encoding="utf-8", buffering=1) as kept:
             # (Linux shares the processors among sessions first, and looks at `nice` only within one)
             with contextlib.suppress(OSError):
                 pathlib.Path(f"/proc/{self.process.pid}/autogroup").write_text(str(self.nice))

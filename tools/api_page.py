@@ -29,7 +29,7 @@ PAGES = {
     ),
     INNER: (
         "Inner calls and contracts",
-        ["imgref", "image_tiles", "image_shape", "row_mover", "image_rows", "image_pixels", "image_writes", "image_flips", "image_ops"]
+        ["imgref", "image_tiles", "image_shape", "row_mover", "image_rows", "image_pixels", "image_writes", "image_ops"]
         + ["image_turns", "image_means", "image_planes", "texts", "devices", "frame_texts", "frame_edits", "frame_formats"]
         + ["frame_requests", "frame_runs", "frame_messages", "imgref_run", "imgref_frames"],
         "The public calls that users don't need. [API.md](../docs/API.md) has the calls for users.",

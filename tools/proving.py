@@ -18,9 +18,11 @@ SO_FAR = re.compile(r"so far: (\d+) of (\d+) functions checked")
 # A crate of this weight gains by jobs, also while others are proved: a proof keeps the jobs that it began with.
 LARGE, MOST_JOBS = 30, 4
 # By how much a crate's own proofs are faster by so many jobs, and what a job reads of a crate below, of the seconds of its proofs.
-FASTER, LOADED = {1: 1.0, 2: 1.5, 3: 1.65, 4: 1.75}, 0.05
-# A chain of crates counts as long from this share of the longest on. What is in no long chain gives way.
-LONG, GIVES_WAY = 0.85, 10
+FASTER, READS = {1: 1.0, 2: 1.5, 3: 1.65, 4: 1.75}, 0.01
+# How long a program is linked, in seconds of one processor.
+LINKED = 50
+# A chain of crates counts as long from this share of the longest on. What is in no long chain gives way, the more the shorter it is.
+LONG, NEAR, GIVES_WAY = 0.8, 0.6, (0, 4, 19)
 
 
 @dataclasses.dataclass(frozen=True)
@@ -38,19 +40,25 @@ class Work:
         """The seconds of all processors."""
         return self.own + jobs * self.loads
 
+    def busy(self, jobs):
+        """How many processors it keeps busy."""
+        return self.whole(jobs) / self.alone(jobs)
+
 
 def weight(name):
-    """What a crate's own proofs take, roughly in seconds of one processor: they go by lines."""
+    """What a crate's own proofs take, roughly in seconds of one processor: they go by lines. A program is linked at its end."""
     files = [*own_sources(name)]
     count = lambda end: sum(it.read_bytes().count(b"\n") for it in files if it.name.endswith(end))
     code = count(".rt") - count("tests.rt")
-    return 8 + code / 10 + count(".antt") / 50
+    return 8 + code / 10 + count(".antt") / 50 + (LINKED if is_program(name) else 0)
 
 
 # A share that the weights don't move grows so many times more slowly than one that they do.
 CREEPS = 4
 # So many seconds pass for one of a plan before anything is learnt, and that counts as much as so many seconds of a plan.
-PACE, KNOWN = 0.9, 60
+PACE, KNOWN = 0.9, 300
+# The most of a crate's proof that is taken for done, where no line tells of it.
+UNTOLD = 0.8
 # In the log of proofs, the name of a line that says how many processors were busy.
 CORES = "cores"
 
@@ -88,20 +96,29 @@ class Progress:
         """Keeps what was said, with the second and the crate."""
         self.log.append(f"{self.clock() - self.began:.1f}\t{name}\t{line}")
 
-    def guessed_jobs(self, name):
-        """The jobs of a proof, or what they will be, roughly."""
-        return min(self.jobs.get(name, 2 if self.works[name].own > LARGE else 1), MOST_JOBS)
+    def guessed_jobs(self, name, beside):
+        """The jobs of a proof, or what they will be, roughly, where so many crates are proved side by side."""
+        least = 2 if self.works[name].own > LARGE else 1
+        return min(self.jobs.get(name, max(least, self.count // beside)), MOST_JOBS)
 
     def part(self, name):
         """The share of a crate's proof that is done."""
         if name in self.done or name not in self.begun:
             return float(name in self.done)
         work, (checked, of) = self.works[name], self.functions[name]
-        alone = work.alone(self.guessed_jobs(name))
-        if checked:
-            return (work.loads + 0.9 * (alone - work.loads) * checked / of) / alone
-        # (what it loads, and its first function, are told by no line)
-        return min((self.clock() - self.begun[name]) / (alone * self.pace()), work.loads / alone + 0.1)
+        alone = work.alone(self.guessed_jobs(name, self.running()))
+        told = (work.loads + 0.9 * (alone - work.loads) * checked / of) / alone if checked else 0.0
+        # (what it loads, and often most of its functions, is told by no line: that goes by the time)
+        return max(told, min((self.clock() - self.begun[name]) / (alone * self.pace() * self.crowd()), UNTOLD))
+
+    def running(self):
+        """How many crates are being proved."""
+        return max(len({*self.begun} - self.done), 1)
+
+    def crowd(self):
+        """By how much the crates that are being proved are slower than alone, since they share the processors."""
+        jobs = {name: self.guessed_jobs(name, self.running()) for name in self.begun if name not in self.done}
+        return max(sum(self.works[name].busy(it) for name, it in jobs.items()) / self.count, 1.0)
 
     def pace(self):
         """How many seconds pass for one of the plan, as far as that is learnt."""
@@ -110,18 +127,19 @@ class Progress:
 
     def plan(self):
         """The seconds that are left by the plan."""
-        jobs = {name: self.guessed_jobs(name) for name in self.works}
-        most = {name: work.whole(jobs[name]) / work.alone(jobs[name]) for name, work in self.works.items()}
-        left = {name: (1 - self.part(name)) * work.whole(jobs[name]) for name, work in self.works.items() if name not in self.done}
-        seconds = 0.0
+        left = {name: 1 - self.part(name) for name in self.works if name not in self.done}
+        jobs, seconds = {}, 0.0
         while left:
             ready = [name for name in left if not any(it in left for it in self.below[name])]
             ready = sorted(ready, key=lambda it: (it not in self.begun, -self.works[it].own))[: self.count]
-            share = min(1.0, self.count / sum(most[it] for it in ready))
-            step = min(left[it] / (most[it] * share) for it in ready)
+            for it in ready:
+                jobs.setdefault(it, self.guessed_jobs(it, len(ready)))
+            alone = {it: self.works[it].alone(jobs[it]) for it in ready}
+            share = min(1.0, self.count / sum(self.works[it].busy(jobs[it]) for it in ready))
+            step = min(left[it] * alone[it] for it in ready) / share
             seconds += step
             for it in ready:
-                left[it] -= step * most[it] * share
+                left[it] -= step * share / alone[it]
                 if left[it] < 1e-6:
                     del left[it]
         return seconds
@@ -197,7 +215,7 @@ def chains(names):
     return found
 
 
-def work_on(name, jobs, is_long, progress):
+def work_on(name, jobs, way, progress):
     """Proves and builds a crate in a room, and keeps what was made. Raises Failed where it is not proved."""
     lines = []
 
@@ -209,8 +227,7 @@ def work_on(name, jobs, is_long, progress):
     with proved_once(name) as is_proved:
         if not is_proved:
             with room(name) as made:
-                command = with_jobs(command_of(name), jobs)
-                if run(command if is_long else ["nice", "-n", str(GIVES_WAY), *command], made, hear):
+                if run(["nice", "-n", str(way), *with_jobs(command_of(name), jobs)], made, hear):
                     raise Failed(name, "".join(lines))
                 keep(made, name)
     progress.end(name)
@@ -228,7 +245,7 @@ class After:
 def prove(names, progress, after=()):
     """Proves and builds these crates, the longest chain first, each once those below it are proved. Then, or where processors are
     idle, comes what is done after, the longest first. Raises Failed of the first that is not proved, once what had begun has ended."""
-    chain, count, left, running, failed = chains(names), processors(), [*names], {}, None
+    chain, count, left, running, began, ways, failed = chains(names), processors(), [*names], {}, {}, {}, None
     later = sorted(after, key=lambda it: -it.seconds)
     with concurrent.futures.ThreadPoolExecutor(max(len(left) + len(later), 1)) as pool:
         while running or (left or later) and not failed:
@@ -238,11 +255,16 @@ def prove(names, progress, after=()):
             for name in sorted(ready, key=lambda it: -chain[it]):
                 if len(running) >= count:
                     break
-                is_long = all(chain[name] >= LONG * chain[it] for it in busy)
-                jobs = jobs_of(name, is_long, count - len(running), len(ready))
+                share = chain[name] / max([chain[name], *(chain[it] + began[it] - time.monotonic() for it in running.values() if it)])
+                ways[name] = GIVES_WAY[0 if share >= LONG else 1 if share >= NEAR else 2]
+                # (what gives way most takes nothing from a long chain)
+                idle = count - sum(not it or share < LONG or ways[it] < GIVES_WAY[-1] for it in running.values())
+                waits = sum(share < LONG or chain[it] >= NEAR * chain[name] for it in ready)
+                jobs = jobs_of(name, share >= LONG, idle, waits)
                 left.remove(name)
                 ready.remove(name)
-                running[pool.submit(work_on, name, jobs, is_long, progress)] = name
+                began[name] = time.monotonic()
+                running[pool.submit(work_on, name, jobs, ways[name], progress)] = name
             for it in [it for it in later if it.name not in waiting and not failed][: max(count - len(running), 0)]:
                 later.remove(it)
                 running[pool.submit(it.run)] = None
@@ -267,7 +289,7 @@ def weights_of(names):
     """What the proof of each of these crates takes, and the crates that it names."""
     all_of_them = crates()
     own = {it: weight(it) for it in all_below(names)}
-    works = {name: Work(own[name], LOADED * sum(own[it] for it in with_those_below(name)[:-1])) for name in names}
+    works = {name: Work(own[name], READS * sum(own[it] for it in with_those_below(name)[:-1])) for name in names}
     return works, {it: all_of_them[it] for it in names}
 
 

@@ -1,16 +1,19 @@
 #!/usr/bin/env python3
-"""Shows which planted bugs a change affects, and which crates: .ci/changed.py, beside an old tree that differs in one place.
+"""Shows which planted bugs a change affects, and which crates: .ci/changed.py, beside an old tree that differs in one place. And that of
+the bugs that are planted together no goal of one is taken for another's.
 
 A change of a body affects the bugs of that function alone, one of a contract those of its callers too, one of a definition those of each
 function that cites it, in other crates too. What only moved and a comment affect none. A change of a crate is one of those above it
 too. One of a page is none of a crate, and one of a tool may be one of all.
 """
+import collections
 import pathlib
 import sys
 
 sys.path.insert(0, str(pathlib.Path(__file__).resolve().parent.parent))
 from checking import ROOT, Cases, crates
 
+from bugs import batches, plant
 from changed import Changes, since
 from planted_bugs import all_bugs
 
@@ -23,7 +26,7 @@ CASES = [
     ("a contract", COUNTING, f"{CONTRACT}let mut count = 0;\n    let mut rest", f"{CONTRACT.replace('row.now', 'row')}let mut count = 0;\n    let mut rest", {"image_ops/count_by_blocks", "image_ops/count_in_row"}, None),
     ("a constant", COUNTING, "const BLOCK: usize = 224;", "const BLOCK: usize = 208;", {"image_ops/count_by_blocks"}, None),
     ("a comment", COUNTING, "// The number in a row, block by block.", "// Another comment.", set(), None),
-    ("a definition", "crates/image_ops/specs/Counting.antt", "count ≡ count_by test values", "count ≡ count_by test (values)", {"image_ops/count_by_blocks", "image_ops/count_in_row", "image_ops/count_pixels", "imgref/count_where"}, {"row_mover", "image_flips", "image_turns", "texts", "devices"}),
+    ("a definition", "crates/image_ops/specs/Counting.antt", "count ≡ count_by test values", "count ≡ count_by test (values)", {"image_ops/count_by_blocks", "image_ops/count_in_row", "image_ops/count_pixels", "imgref/count_where"}, {"row_mover", "image_turns", "texts", "devices"}),
 ]
 
 
@@ -43,6 +46,7 @@ def main():
     cases, texts = Cases(), now()
     bugs, bad = all_bugs([*crates()], [])
     cases.count("each planted bug can be planted", bugs and not bad, "\n".join(bad))
+    check_lines(cases, bugs)
     found = functions_affected(bugs, texts)
     cases.count("the same tree affects none", not found, f"{found}")
     found = functions_affected(bugs, {path.replace("/counting", "/moved").replace("crates/imgref/", "crates/another/"): text for path, text in texts.items()})
@@ -56,6 +60,17 @@ def main():
     return cases.end()
 
 
+def check_lines(cases, bugs):
+    """Bugs that are planted together have no line in common: the goal of one, told at its first attribute, refuses no other."""
+    shared = set()
+    for name, found in bugs.items():
+        for batch in batches(found):
+            spans = plant(batch, ROOT / "crates" / name).spans
+            of_each = [{(file, line) for file, first, last in it for line in range(first, last + 1)} for it in spans.values()]
+            shared |= {(name, *it) for it, times in collections.Counter(line for lines in of_each for line in lines).items() if times > 1}
+    cases.count("bugs that are planted together have lines of their own", not shared, str(sorted(shared)[:5]))
+
+
 def check_crates(cases, texts):
     """Which crates differ, and whether more does."""
     lists = (ROOT / "crates.txt").read_text(encoding="utf-8")
@@ -64,7 +79,7 @@ def check_crates(cases, texts):
         ("pages", texts, ("README.md", "docs/C.md", "web/save.js", ".ci/last_landed", "crates/image_ops/must-fail/x.edit"), set(), {*crates()}, False),
         ("a tool", texts, ("docs/C.md", "tools/proving.py"), set(), {*crates()}, True),
         ("the input of a crate's program", texts, ("crates/imgref_run/stdin",), set(), {*crates()}, True),
-        ("a crate", {**texts, COUNTING: texts[COUNTING] + "//\n"}, (COUNTING,), {"image_ops", "imgref", "imgref_frames"}, {"image_flips", "image_turns", "row_mover"}, False),
+        ("a crate", {**texts, COUNTING: texts[COUNTING] + "//\n"}, (COUNTING,), {"image_ops", "imgref", "imgref_frames"}, {"image_turns", "row_mover"}, False),
     ]:
         found = since(old, lists, paths)
         is_well = wanted <= {*found.crates} and not spared & {*found.crates} and found.has_more == has_more

@@ -24,7 +24,7 @@ from needs import needs
 from workspace import KITS, LOGIC
 
 # What each Debian has, what comes with another package of the list, and what is of this repository or of Rattle, as an edit is.
-BASE = {"sh", "bash", "cat", "date", "env", "true", "sudo", "tar", "sha256sum", "dpkg-deb", "apt-get", "unshare", "mount", "umount", "strip", "rustc", "ssh", "sshd", "ssh-keygen", "rt", "imgref_frames", "means"}
+BASE = {"sh", "bash", "cat", "date", "env", "nice", "true", "sudo", "tar", "sha256sum", "dpkg-deb", "apt-get", "unshare", "mount", "umount", "strip", "rustc", "ssh", "sshd", "ssh-keygen", "rt", "imgref_frames", "means"}
 # A program that a script looks for or starts.
 STARTED = re.compile(r"""(?:which|lacks|run|Popen|command|run_to_end|first)\(\[?"([a-z][\w.+-]*)"(?=[,)\]])""")
 # The tools that a person starts, with words that do something.

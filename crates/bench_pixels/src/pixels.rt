@@ -7,9 +7,10 @@ use crate::digest::Digest;
 use crate::numbers::Numbers;
 use crate::photos::{CHANNELS, Photo, sizes};
 use crate::request::{Fault, Size};
-use image_flips::{flip_window_columns, flip_window_rows};
 use image_ops::{count_value, mosaic_window_by, repeat_window};
-use image_turns::{Orientation, orient_in_place, orient_pixels};
+use image_turns::{
+    Orientation, flip_window_columns, flip_window_rows, orient_in_place, orient_pixels,
+};
 use std::alloc::Global;
 
 // All ways in which an image is turned.

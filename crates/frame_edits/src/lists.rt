@@ -132,16 +132,9 @@ impl Edits {
         ensures same { IfErr result (λ _. plain self.new ≡ plain self.old) }
     {
         match self.add_all(words) {
-            Ok(()) => Ok(()),
-            Err(WordsFault::NoEdit) => Err(WordsFault::NoEdit),
-            Err(WordsFault::Memory) => {
-                // Without room the words are read once more: bad ones are told all the same.
-                if are_edits(self.framing, words) {
-                    Err(WordsFault::Memory)
-                } else {
-                    Err(WordsFault::NoEdit)
-                }
-            }
+            // Without room the words are read once more: bad ones are told all the same.
+            Err(WordsFault::Memory) if !are_edits(self.framing, words) => Err(WordsFault::NoEdit),
+            told => told,
         }
     }
 
@@ -210,16 +203,9 @@ impl Edits {
         ensures same { IfErr result (λ _. plain self.new ≡ plain self.old) }
     {
         match self.add_lines(text) {
-            Ok(()) => Ok(()),
-            Err(WordsFault::NoEdit) => Err(WordsFault::NoEdit),
-            Err(WordsFault::Memory) => {
-                // Without room the lines are read once more: a bad one is told all the same.
-                if are_lines(self.framing, text) {
-                    Err(WordsFault::Memory)
-                } else {
-                    Err(WordsFault::NoEdit)
-                }
-            }
+            // Without room the lines are read once more: a bad one is told all the same.
+            Err(WordsFault::Memory) if !are_lines(self.framing, text) => Err(WordsFault::NoEdit),
+            told => told,
         }
     }
 

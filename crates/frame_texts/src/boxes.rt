@@ -333,11 +333,9 @@ pub fn read_tracked(alloc: Global, text: &[u8]) -> Result<Vec<Tracked>, WordsFau
     ensures memory { IfErr result (λ e. e ≡ WordsFault.Memory → HasBoxes text.now) }
 {
     match read_lines(alloc, text) {
-        Ok(boxes) => Ok(boxes),
-        Err(WordsFault::NoEdit) => Err(WordsFault::NoEdit),
         // Without room the lines are read once more: a bad one is told all the same.
-        Err(WordsFault::Memory) if are_boxes(text) => Err(WordsFault::Memory),
-        Err(WordsFault::Memory) => Err(WordsFault::NoEdit),
+        Err(WordsFault::Memory) if !are_boxes(text) => Err(WordsFault::NoEdit),
+        told => told,
     }
 }
 

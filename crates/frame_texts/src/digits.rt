@@ -1,9 +1,9 @@
 //! Numbers that are read a digit at a time, and digits after a point.
 
-ghost use Rattle.std.specs.Prelude.{◌≡◌};
-ghost use Rattle.frame_texts.specs.Digits.{is_digit, with_digit, worth_of};
 ghost use Rattle.std.specs.Prelude.{◌≡◌, ◌<◌, ◌*◌, IfSome};
+ghost use Rattle.frame_texts.specs.Digits.{is_digit, with_digit, worth_of};
 
+/// Whether a byte is a decimal digit.
 pub(crate) fn is_digit(byte: u8) -> bool
     ensures { result ≡ is_digit byte }
 {

@@ -9,13 +9,13 @@ use crate::pam::Tuples;
 use crate::pam_words::Key;
 use crate::picture::{Kind, Picture};
 use std::alloc::{AllocError, Global};
+use texts::push_number;
 
 // Adds a number, and a byte after it.
-fn push_number(alloc: Global, text: &mut Vec<u8>, number: usize, end: u8) -> Result<(), AllocError>
+fn push_ended(text: &mut Vec<u8>, number: usize, end: u8) -> Result<(), AllocError>
     ensures { OnOk result (text.new.items ≡ text.old.items ++ decimal number ++ end ∷ []) }
 {
-    let digits = number.to_string(alloc)?;
-    text.extend_from_slice(digits.as_bytes())?;
+    push_number(text, number as u64)?;
     text.push(end)?;
     Ok(())
 }
@@ -27,9 +27,9 @@ fn plain_head(alloc: Global, colour: bool, picture: Picture) -> Result<Vec<u8>, 
 {
     let mut text = Vec::new(alloc);
     text.extend_from_slice(if colour { b"P6\n" } else { b"P5\n" })?;
-    push_number(alloc, &mut text, picture.width, b' ')?;
-    push_number(alloc, &mut text, picture.height, b'\n')?;
-    push_number(alloc, &mut text, picture.greatest as usize, b'\n')?;
+    push_ended(&mut text, picture.width, b' ')?;
+    push_ended(&mut text, picture.height, b'\n')?;
+    push_ended(&mut text, picture.greatest as usize, b'\n')?;
     Ok(text)
 }
 
@@ -45,12 +45,12 @@ fn type_name(tuples: Tuples) -> &'static [u8]
 }
 
 // Adds a line of a word and a number.
-fn push_line(alloc: Global, text: &mut Vec<u8>, key: Key, number: usize) -> Result<(), AllocError>
+fn push_line(text: &mut Vec<u8>, key: Key, number: usize) -> Result<(), AllocError>
     ensures { OnOk result (text.new.items ≡ text.old.items ++ number_line (key_text key) number) }
 {
     text.extend_from_slice(key.text())?;
     text.push(b' ')?;
-    push_number(alloc, text, number, b'\n')
+    push_ended(text, number, b'\n')
 }
 
 // The lines of a PAM picture.
@@ -60,10 +60,10 @@ fn pam_head(alloc: Global, tuples: Tuples, picture: Picture) -> Result<Vec<u8>, 
 {
     let mut text = Vec::new(alloc);
     text.extend_from_slice(b"P7\n")?;
-    push_line(alloc, &mut text, Key::Width, picture.width)?;
-    push_line(alloc, &mut text, Key::Height, picture.height)?;
-    push_line(alloc, &mut text, Key::Depth, tuples.depth())?;
-    push_line(alloc, &mut text, Key::Greatest, picture.greatest as usize)?;
+    push_line(&mut text, Key::Width, picture.width)?;
+    push_line(&mut text, Key::Height, picture.height)?;
+    push_line(&mut text, Key::Depth, tuples.depth())?;
+    push_line(&mut text, Key::Greatest, picture.greatest as usize)?;
     text.extend_from_slice(b"TUPLTYPE ")?;
     text.extend_from_slice(type_name(tuples))?;
     text.extend_from_slice(b"\nENDHDR\n")?;

@@ -6,19 +6,16 @@ ghost use Rattle.frame_texts.specs.VideoLine.{resized_field, resized_fields, res
 ghost use Rattle.texts.specs.Parts.{parts_left};
 
 use std::alloc::{AllocError, Global};
-use texts::Parts;
+use texts::{Parts, push_number};
 
-fn push_size(alloc: Global, text: &mut Vec<u8>, letter: u8, number: usize) -> Result<(), AllocError>
+fn push_size(text: &mut Vec<u8>, letter: u8, number: usize) -> Result<(), AllocError>
     ensures { OnOk result (text.new.items ≡ text.old.items ++ 32 ∷ letter ∷ decimal number) }
 {
-    let digits = number.to_string(alloc)?;
     text.extend_from_slice(&[b' ', letter])?;
-    text.extend_from_slice(digits.as_bytes())?;
-    Ok(())
+    push_number(text, number as u64)
 }
 
 fn push_field(
-    alloc: Global,
     text: &mut Vec<u8>,
     field: &[u8],
     width: usize,
@@ -28,8 +25,8 @@ fn push_field(
         (text.new.items ≡ text.old.items ++ resized_field width height field.now) }
 {
     match field {
-        [b'W', ..] => push_size(alloc, text, b'W', width),
-        [b'H', ..] => push_size(alloc, text, b'H', height),
+        [b'W', ..] => push_size(text, b'W', width),
+        [b'H', ..] => push_size(text, b'H', height),
         _ => {
             text.extend_from_slice(&[b' '])?;
             text.extend_from_slice(field)?;
@@ -39,7 +36,6 @@ fn push_field(
 }
 
 fn push_fields(
-    alloc: Global,
     text: &mut Vec<u8>,
     fields: Parts<'_>,
     width: usize,
@@ -50,7 +46,7 @@ fn push_fields(
 {
     let mut rest = fields;
     while let Some(field) = rest.next_part() {
-        push_field(alloc, text, field, width, height)?;
+        push_field(text, field, width, height)?;
     }
     Ok(())
 }
@@ -68,7 +64,7 @@ pub fn resized_line(
     text.extend_from_slice(b"YUV4MPEG2")?;
     let mut fields = Parts::new(line, b' ');
     if fields.next_part().is_some() {
-        push_fields(alloc, &mut text, fields, width, height)?;
+        push_fields(&mut text, fields, width, height)?;
     }
     text.push(b'\n')?;
     Ok(text)

@@ -15,10 +15,10 @@ ghost use Rattle.image_commands.specs.Changes.{is_blur};
 ghost use Rattle.image_planes.specs.Scratch.{has_room};
 
 use image_commands::{Axes, Change};
-use image_flips::{flip_rows, flip_window_columns};
 use image_means::{blur_samples, mean_samples};
 use image_ops::{mosaic_window_by, repeat_window};
 use image_shape::{SampleBytes, Shape, Window};
+use image_turns::{flip_rows, flip_window_columns};
 use row_mover::move_pixels;
 
 /// The bytes of a pixel. Where a pixel has fewer, the others are ignored.

@@ -1,11 +1,15 @@
 pub mod BlockPairs
+pub mod Crossing
 pub mod Diagonals
 pub mod FromPlaces
 pub mod Oriented
+pub mod PixelFlips
 pub mod PixelSquares
 pub mod PlacesCrossed
 pub mod QuarterBlocks
 pub mod Quarters
 pub mod Shuffles
 pub mod SquareBlocks
+pub mod Swaps
+pub mod TriplePlaces
 pub mod Windowed

@@ -11,9 +11,10 @@ ghost use Rattle.image_writes.specs.Written.{Becomes};
 ghost use Rattle.image_turns.specs.Sizes.{IsPixelSquare};
 
 use crate::block_pairs::cross_pairs;
+use crate::flipping::flip_rows;
+use crate::pixel_flips::mirror_pixels;
 use crate::pixel_turning::Orientation;
 use crate::squares::transpose_square;
-use image_flips::{flip_rows, mirror_pixels};
 use image_shape::Shape;
 use std::mem::size_of_val;
 

@@ -14,8 +14,8 @@ ghost use Rattle.image_turns.specs.Sizes.{AreOriented, ArePartOfRow};
 ghost use Rattle.image_writes.specs.Written.{Becomes};
 
 use crate::near::rows_near;
+use crate::triples::{copy_triples_back, triples_pay};
 use crate::turning::{Turn, is_near, transpose_pixels, turn_pixels};
-use image_flips::{copy_triples_back, triples_pay};
 use image_shape::{Shape, Window};
 use image_writes::{exact_part, read_part, write_part};
 use std::mem::size_of_val;

@@ -12,9 +12,9 @@ ghost use Rattle.image_turns.specs.Sizes.{IsSquare};
 
 use crate::block_pairs::cross_pairs;
 use crate::blocks::{block_shape, read_rows, transpose_block};
+use crate::flipping::{flip_columns, flip_rows, swap_cells};
 use crate::near::rows_near;
 use crate::turning::Turn;
-use image_flips::{flip_columns, flip_rows, swap_cells};
 use image_shape::{Shape, Window};
 use image_writes::{exact_part, padded_part};
 use std::mem::{size_of, size_of_val};

@@ -15,8 +15,8 @@ ghost use Rattle.image_writes.specs.Written.{Becomes, HaveSameSize};
 
 use crate::bands::{copied_columns, quarter_copied};
 use crate::blocks::{block_shape, read_rows, transpose_block};
+use crate::flipping::copy_back;
 use crate::near::rows_near;
-use image_flips::copy_back;
 use image_rows::row;
 use image_shape::{Shape, Window};
 use image_writes::{exact_part, padded_part};

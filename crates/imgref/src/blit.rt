@@ -11,9 +11,9 @@ ghost use Rattle.imgref.specs.Image.{width_of, height_of, grid_by, layout_by, On
 
 use crate::containers::AsMutSlice;
 use crate::img::{Img, ImgRef};
-use image_flips::swap_rows;
 use image_ops::{copy_pixels, copy_window};
 use image_shape::Window;
+use image_turns::swap_rows;
 use row_mover::move_pixels;
 
 impl<C: AsMutSlice> Img<C> {

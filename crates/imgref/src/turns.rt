@@ -10,8 +10,10 @@ ghost use Rattle.imgref.specs.Image.{width_of, height_of, grid_by, layout_by, On
 
 use crate::containers::{AsMutSlice, AsSlice};
 use crate::img::Img;
-use image_flips::{flip_columns, flip_rows, swap_columns};
-use image_turns::{Turn, transpose_pixels, transpose_square, turn_in_place, turn_pixels};
+use image_turns::{
+    Turn, flip_columns, flip_rows, swap_columns, transpose_pixels, transpose_square, turn_in_place,
+    turn_pixels,
+};
 
 impl<C: AsMutSlice> Img<C> {
     /// The image is turned upside down: its first row changes places with its last, and so on. The

@@ -5,8 +5,8 @@ ghost use Rattle.imgref_c.specs.Words.{as_window, flipped, mirrored_by, part_sta
 
 use crate::pixels::ClaimedPixels;
 use crate::status::Status;
-use image_flips::{flip_window_columns, flip_window_rows};
 use image_shape::Window;
+use image_turns::{flip_window_columns, flip_window_rows};
 
 // The first row of the window changes places with its last, and so on.
 pub(crate) fn flip_rows<T>(cells: &mut [T], claimed: ClaimedPixels, window: Window) -> Status
@@ -52,6 +52,6 @@ pub(crate) fn swap_rows<T>(cells: &mut [T], claimed: ClaimedPixels, y: usize, z:
     if y >= claimed.shape.height || z >= claimed.shape.height {
         return Status::PlaceOutside;
     }
-    image_flips::swap_rows(cells, claimed.cells(), y, z);
+    image_turns::swap_rows(cells, claimed.cells(), y, z);
     Status::Done
 }

@@ -6,5 +6,3 @@ pub mod ScriptLines
 pub mod ScriptGood
 pub mod ScriptRead
 pub mod OutputImages
-pub mod Digits
-pub mod PixelTexts

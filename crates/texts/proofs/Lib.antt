@@ -1,4 +1,5 @@
 pub mod Beginnings
+pub mod Decimals
 pub mod FieldNumbers
 pub mod FieldTexts
 pub mod FieldsEach
@@ -7,6 +8,7 @@ pub mod Options
 pub mod PartsCut
 pub mod PartsJoined
 pub mod PartsLeft
+pub mod PixelTexts
 pub mod Positions
 pub mod ShortNumbers
 pub mod ShortPixels

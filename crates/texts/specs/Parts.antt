@@ -1,7 +1,6 @@
 -- Bytes that are split at a separator, and the parts of them that are left.
-use Rattle.std.specs.Prelude.{ℕ, List, ◌==◌}
+use Rattle.std.specs.Prelude.{ℕ, List, [], Option, Some, None, ◌==◌}
 use Rattle.std.specs.List.{slice_split}
-use Rattle.std.specs.Prelude.{ℕ, List, [], Option, Some, None}
 use Rattle.std.specs.Borrow.{Bor}
 use Rattle.texts.specs.declared.parts.Parts.{Parts}
 

@@ -5,9 +5,8 @@ ghost use Rattle.std.specs.Prelude.{◌≡◌, ◌*◌, ◌<◌, ◌≤◌};
 ghost use Rattle.image_shape.specs.Shape.{shape_width, shape_height};
 ghost use Rattle.image_turns.specs.Oriented.{oriented_width, oriented_height};
 
-use image_flips::mirror_pixels;
 use image_shape::Shape;
-use image_turns::{Orientation, orient_in_place, orient_pixels};
+use image_turns::{Orientation, mirror_pixels, orient_in_place, orient_pixels};
 use std::alloc::{AllocError, Global};
 use std::process::Abort;
 use std::test::Fail;

@@ -10,7 +10,7 @@ pub returns-clause-text : goal.returns-clause-text
 returns-clause-text c =
     let l = vec_layout c.args.image.now in
     let sizes : c.push_sizes.new.text.items ≡ c.args.text.now.items ++ line_of (sizes_fields l) = rw (c.width.ensures.value, c.height.ensures.value, c.stride.ensures.value) at c.in_ok-push_sizes.ensures.text in
-    pushed_image _ _ _ _ _ _ _ (image_text_is l) sizes (rw (c.deref.ensures.value, c.buf.ensures) at c.in_ok-push_cells.ensures.text) c.in_ok-extend_from_slice.ensures.items
+    pushed_image _ _ _ _ _ _ _ (image_text_is l) sizes (rw (c.deref.ensures.value, c.buf.ensures) at c.in_ok-push_pixels.ensures.text) c.in_ok-extend_from_slice.ensures.items
 
 pub returns-clause-good : goal.returns-clause-good
 returns-clause-good c = record {
@@ -19,6 +19,6 @@ returns-clause-good c = record {
   stride = omega arith;
   stride_positive = omega arith;
   holds_width = omega arith;
-  cells = recursion_from_All IsPixel _ (rw (c.deref.ensures.value, c.buf.ensures) at c.in_ok-push_cells.ensures.pixels);
+  cells = recursion_from_All IsPixel _ (rw (c.deref.ensures.value, c.buf.ensures) at c.in_ok-push_pixels.ensures.pixels);
   fits = c.requires.fits;
 }

@@ -1,4 +1,0 @@
-pub mod Crossing
-pub mod PixelFlips
-pub mod Swaps
-pub mod TriplePlaces
