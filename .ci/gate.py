@@ -31,6 +31,7 @@ import re
 import shutil
 import subprocess
 import sys
+import tempfile
 import threading
 import time
 
@@ -164,7 +165,8 @@ class Part:
             passed, failed, self.skipped = int(is_well), int(not is_well), 0
         self.passed, self.failed = passed, failed or int(not is_well)
         self.lacked, self.left = SKIPPED.findall("\n".join(lines)), VARIANT.findall("\n".join(lines))
-        self.bad = [it.strip() for it in lines if TOLD.match(it)] if self.failed else []
+        # (where no line does, the last one says how it ended)
+        self.bad = ([it.strip() for it in lines if TOLD.match(it)] or [it.strip() for it in lines if it.strip()][-1:]) if self.failed else []
 
 
 @dataclasses.dataclass
@@ -202,11 +204,17 @@ def sessions():
     return found
 
 
-class Memory:
-    """Looks once a second at how much memory the parts take."""
+def least_free():
+    """The bytes that are free where the parts write, on the fuller disk: in the checkout, and in the folder of rooms."""
+    return min(shutil.disk_usage(it).free for it in (ROOT, tempfile.gettempdir()))
+
+
+class Usage:
+    """Looks once a second at how much memory the parts take, and how much of the disks is free."""
 
     def __init__(self, parts):
         self.parts, self.most, self.ended = parts, 0, threading.Event()
+        self.free = least_free()
         self.thread = threading.Thread(target=self.look, daemon=True)
 
     def look(self):
@@ -215,7 +223,7 @@ class Memory:
             for it in self.parts:
                 mine = found.get(it.process.pid, 0) if it.process else 0
                 it.memory, taken = max(it.memory, mine), taken + mine
-            self.most = max(self.most, taken)
+            self.most, self.free = max(self.most, taken), min(self.free, least_free())
 
     def __enter__(self):
         self.thread.start()
@@ -373,17 +381,18 @@ def building(*names):
     return [sys.executable, str(ROOT / "tools/program.py"), "build", *names]
 
 
-def table(parts, most, began):
-    """What each part took: how long it ran, for how many seconds of all processors, and the most memory."""
+def table(parts, usage, began):
+    """What each part took: how long it ran, for how many seconds of all processors, and the most memory. Then all of it, and the least
+    that was free of the disk."""
     width = max(len(it.name) for it in parts)
     row = lambda name, seconds, busy, memory: f"{name:{width}}  {minutes(seconds):>12}  {busy:6.0f} s  {memory / 1e9:4.1f} GB"
     lines = [f"{row(it.name, it.seconds, it.busy, it.memory)}  {it.passed:4} passed, {it.failed} failed, {it.skipped} skipped" for it in parts]
-    return "\n".join(["", *lines, row("in all", time.monotonic() - began, sum(it.busy for it in parts), most)])
+    return "\n".join(["", *lines, row("in all", time.monotonic() - began, sum(it.busy for it in parts), usage.most), f"At least {usage.free / 1e9:.1f} GB of the disk were free."])
 
 
 def failing(parts):
     """What failed, part by part: the end of a long log is all that some people see."""
-    rows = [f"{it.name}: {line[:200]}" for it in parts if it.failed for line in it.bad[:MOST_TOLD] or ["its last lines are above"]]
+    rows = [f"{it.name}: {line[:200]}" for it in parts if it.failed for line in it.bad[:MOST_TOLD] or ["it said nothing"]]
     return "\n".join(["", "Failed:", *rows]) if rows else ""
 
 
@@ -433,10 +442,10 @@ def work(way, only):
         TESTED.unlink(missing_ok=True)
         files = sum_of_files()
     say(f"About {MINUTES[way]} minutes from nothing on four processors (here: {len(os.sched_getaffinity(0))}), less with cached proofs.")
-    with Memory(parts) as memory:
+    with Usage(parts) as usage:
         WAYS[way](parts, only)
     passed, failed, skipped = (sum(getattr(it, what) for it in parts) for what in ("passed", "failed", "skipped"))
-    say(table(parts, memory.most, began))
+    say(table(parts, usage, began))
     for said in filter(None, (lacking(parts), failing(parts))):
         say(said)
     # (with CI=true only what this machine can't do is skipped, and it can't do it a second time either)

@@ -27,6 +27,7 @@ import dataclasses
 import pathlib
 import re
 import sys
+import time
 
 sys.path.insert(0, str(pathlib.Path(__file__).resolve().parent.parent / "tools"))
 from bugs import batches, plant, read
@@ -120,6 +121,7 @@ def try_together(name, bugs, only):
             break
         for file, goal in stale:
             answers.setdefault(file, set()).add(goal)
+        print(f"{name}: again without {', '.join(f'{file} {goal}' for file, goal in stale)}: {', '.join(it.path.stem for it in left)}", flush=True)
     return refused, left, first
 
 
@@ -183,11 +185,14 @@ def all_bugs(names, only):
     return good, bad
 
 
-def told(found):
-    """Prints what is said of each bug as soon as it is judged, and gives whether it is refused."""
+def told(name, found):
+    """Prints what is said of each bug as soon as it is judged, and gives whether it is refused. Then what the check of them took."""
+    began, count = time.monotonic(), 0
     for is_refused, line in found:
+        count += 1
         print(line, flush=True)
         yield is_refused
+    print(f"{name}: {count} bugs in {time.monotonic() - began:.0f} s", flush=True)
 
 
 def sum_of_crates():
@@ -226,7 +231,7 @@ def main():
     checks.sort(key=lambda it: -len(it[1]) * (1 + len(with_those_below(it[0]))))
     way = compile_all if asked.compile else try_all
     with workers(processors()) as pool:
-        begin = lambda names: [pool.submit(lambda *it: [*told(way(*it))], *it) for it in checks if it[0] in names]
+        begin = lambda names: [pool.submit(lambda name, bugs: [*told(name, way(name, bugs))], *it) for it in checks if it[0] in names]
         proved = {it for it in bugs if not changed([it])}
         running = begin(proved)
         said = prove_changed([*bugs], Progress(*weights_of(all_below([*bugs]))))
