@@ -255,12 +255,8 @@ def prove(names, progress, after=()):
             for name in sorted(ready, key=lambda it: -chain[it]):
                 if len(running) >= count:
                     break
-                share = chain[name] / max([chain[name], *(chain[it] + began[it] - time.monotonic() for it in running.values() if it)])
-                ways[name] = GIVES_WAY[0 if share >= LONG else 1 if share >= NEAR else 2]
-                # (what gives way most takes nothing from a long chain)
-                idle = count - sum(not it or share < LONG or ways[it] < GIVES_WAY[-1] for it in running.values())
-                waits = sum(share < LONG or chain[it] >= NEAR * chain[name] for it in ready)
-                jobs = jobs_of(name, share >= LONG, idle, waits)
+                left_of = [(chain[it] + began[it] - time.monotonic(), ways[it]) if it else (0.0, GIVES_WAY[0]) for it in running.values()]
+                ways[name], jobs = turn_of(chain[name], weight(name) > LARGE, left_of, [chain[it] for it in ready], count)
                 left.remove(name)
                 ready.remove(name)
                 began[name] = time.monotonic()
@@ -276,13 +272,20 @@ def prove(names, progress, after=()):
         raise failed
 
 
-def jobs_of(name, is_long, idle, ready):
-    """How many jobs a proof takes: the first of a long chain all that no other crate waits for, but two at least; another one of
-    them, or two where they are idle. Each job reads the libraries anew."""
-    most = min(processors(), MOST_JOBS)
-    if is_long and weight(name) > LARGE:
-        return min(most, max(2, idle - ready + 1))
-    return max(1, min(most, idle // max(ready, 1), 2))
+def turn_of(chain, is_large, running, ready, count):
+    """How far a crate that begins now gives way to others, and its jobs. `chain` has the seconds of the longest chain from it on, `running`
+    what is left of each chain that runs and how far that gives way, and `ready` the chains that could begin now, its own among them.
+
+    On a long chain a large crate takes all processors that no other crate waits for, but two at least; another crate takes one of them,
+    or two where they are idle. Each job reads the libraries anew."""
+    share = chain / max([chain, *(left for left, _ in running)])
+    is_long = share >= LONG
+    way = GIVES_WAY[0 if is_long else 1 if share >= NEAR else 2]
+    # (what gives way most takes nothing from a long chain, and doesn't wait for one)
+    idle = count - sum(not is_long or it < GIVES_WAY[-1] for _, it in running)
+    waits = sum(not is_long or it >= NEAR * chain for it in ready)
+    most = min(count, MOST_JOBS)
+    return way, min(most, max(2, idle - waits + 1)) if is_long and is_large else max(1, min(most, idle // max(waits, 1), 2))
 
 
 def weights_of(names):

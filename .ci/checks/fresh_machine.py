@@ -198,6 +198,9 @@ def check_checkout(cases, top):
         cases.count(f"make docs and make exports in the folder {top.name}", status == 0 and not lines, f"{wrote} {lines}")
         locked = "import sys; sys.path.insert(0, 'tools'); import workspace; raise OSError(30, 'Read-only file system', workspace.ROOT / 'out')"
         count_line(cases, "a checkout that can't be written into", said([sys.executable, "-c", locked], top, path), "this needs a checkout that it can write into")
+        for label, what in (("a file", "28, 'No space left on device', 'out'"), ("a folder", "[('src', 'to', '[Errno 28] No space left on device: to')]")):
+            full = f"import sys; sys.path.insert(0, 'tools'); import workspace, shutil; raise {'OSError' if label == 'a file' else 'shutil.Error'}({what})"
+            count_line(cases, f"a disk that is full by {label}", said([sys.executable, "-c", full], top, path), "the disk is full, so this ends")
         lost = "import sys; sys.path.insert(0, 'tools'); import workspace, subprocess; subprocess.run(['nothing-known'])"
         count_line(cases, "a program that is missing", said([sys.executable, "-c", lost], top, path), "nothing-known is needed")
 

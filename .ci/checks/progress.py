@@ -2,7 +2,7 @@
 """Shows that what `make run` says of its progress moves, and that it tells what is left.
 
 The prover's lines of three crates go to the same class, second by second. So do those of `make run`, which were recorded from
-nothing on an idle machine: at each tenth of the time what is left is told to a third. `progress.py --write` records the last proofs of
+nothing on an idle machine: at each tenth of the time what is left is told to a third. A table says which turn a crate gets. `progress.py --write` records the last proofs of
 this checkout anew: for a change by which the recorded ones no longer stand for today's crates.
 """
 import pathlib
@@ -11,7 +11,7 @@ import sys
 
 sys.path.insert(0, str(pathlib.Path(__file__).resolve().parent.parent))
 from checking import ROOT, Cases
-from proving import SO_FAR, Progress, Work, all_below, weights_of
+from proving import SO_FAR, Progress, Work, all_below, turn_of, weights_of
 
 SHARE = re.compile(r"\d+:\d\d +([\d.]+) %")
 # What is shown moves at least so often, in seconds.
@@ -20,6 +20,22 @@ MOVES = 20
 RECORDED, PROGRAM = ROOT / ".ci/checks/progress.txt", "imgref_run"
 # Crates that are proved one after the other: how many functions each has, and the seconds before the first and of each.
 CRATES = {"shapes": (34, 20, 0.5), "images": (88, 24, 1.5), "program": (41, 40, 1)}
+
+# A crate that begins on four processors: its chain, whether it is large, what is left of each running chain and how far that gives way, the
+# chains that could begin, and then how far it gives way and its jobs.
+TURNS = {
+    "one that is alone takes all": (300, True, [], [300], (0, 4)),
+    "a small one takes two": (300, False, [], [300], (0, 2)),
+    "of three long chains each takes two": (300, True, [], [300, 280, 200], (0, 2)),
+    "a short chain that waits takes nothing from a long one": (300, True, [], [300, 100, 90], (0, 4)),
+    "nor does one that runs": (300, True, [(100, 19)], [300], (0, 4)),
+    "a long chain that runs takes one": (300, True, [(290, 0)], [300], (0, 3)),
+    "a short chain gives way": (100, True, [(300, 0)], [100], (19, 2)),
+    "a longer one gives way less": (200, True, [(300, 0)], [200], (4, 2)),
+    "a chain counts by what is left of it": (200, True, [(240, 0)], [200], (0, 3)),
+    "two jobs at least go to a long chain": (300, True, [(290, 0), (280, 0), (250, 0)], [300], (0, 2)),
+    "and one to a short chain": (100, True, [(300, 0), (290, 0), (280, 0)], [100, 90], (19, 1)),
+}
 
 
 def said():
@@ -97,6 +113,9 @@ def main():
     cases.count("functions are counted", any(re.search(r"\d+ of \d+", it) for it in texts))
     cases.count("what is left is shown", any("min left" in it for it in texts))
     check_left(cases)
+    for label, (chain, is_large, running, ready, wanted) in TURNS.items():
+        found = turn_of(chain, is_large, running, ready, 4)
+        cases.count(f"which turn a crate gets: {label}", found == wanted, f"it gives way by {found[0]}, with {found[1]} jobs")
     return cases.end()
 
 
