@@ -11,6 +11,7 @@ import pathlib
 import shutil
 import sys
 import tempfile
+import time
 
 if sys.version_info < (3, 10):
     sys.exit("Python 3.10 or later is needed: %s is Python %d.%d" % ((sys.executable,) + tuple(sys.version_info[:2])))
@@ -151,6 +152,17 @@ def linked(source, target):
         shutil.copy2(source, target)
 
 
+def copy_source(source, target):
+    """Copies a source. Where that fails, it tries twice more, after a second each: an editor may replace the file at that moment."""
+    for is_last in (False, False, True):
+        try:
+            return shutil.copy2(source, target)
+        except OSError:
+            if is_last:
+                raise
+            time.sleep(1)
+
+
 @contextlib.contextmanager
 def room(name, texts=None):
     """Gives the folder of that crate in a room, which is there until the end of the block, with what was built below it and
@@ -163,9 +175,9 @@ def room(name, texts=None):
         (top / "crates.txt").write_text("".join(f"{line}\n" for line, it, _, _ in entries() if it in names))
         for it in names:
             source, target = ROOT / "crates" / it, top / "crates" / it
-            for part in PARTS:
-                if (source / part).is_dir():
-                    shutil.copytree(source / part, target / part)
+            for path in own_sources(it):
+                (to := target / path.relative_to(source)).parent.mkdir(parents=True, exist_ok=True)
+                copy_source(path, to)
             with held(source):
                 for kept in ["rlib", *["incremental"] * (it == name or changes_below)]:
                     if (source / "out" / kept).is_dir():
