@@ -44,6 +44,8 @@ ANSWER, WORD = re.compile(r"(pub )?(\S+) : "), re.compile(r"[^\s(){}\[\],.;:]+")
 ERROR = re.compile(r"(?:\./)?(\S+?):\d+:\d+: error: (?:(`[^`]*`): )?(.*)")
 # An error of these kinds says that a text could not be read, where a bug that only makes a statement false reads well.
 UNREADABLE = re.compile(r"is not in scope|has no field|is no name|operand is missing|expected the end|cannot continue")
+# What is said of a name that several functions have, such as that of a method of a trait: the name, and their paths.
+SEVERAL = re.compile(r"rattle: error: several functions are named `([^`]*)`: help: write one of (.*)")
 # No function has this name. A check of it alone compiles the crate, says that there is none, and proves nothing.
 NO_FUNCTION = "no_such_function"
 # The sum of the crates' texts at which all planted bugs were refused last.
@@ -54,8 +56,16 @@ HARDLY = re.compile(r"(?:\./)?proofs/.*(?:has no field|is not in scope|has no `|
 
 
 def said_of(name, texts, only=()):
-    """What the check of a crate, or of these functions, says with these texts in place of its own."""
-    return said_with(name, {f"{name}/{file}": text for file, text in texts.items()}, [word for it in only for word in ("--only", it)])
+    """What the check of a crate, or of these functions, says with these texts in place of its own. Where several functions have a name, all
+    of them are checked."""
+    only = [*only]
+    while True:
+        lines, status = said_with(name, {f"{name}/{file}": text for file, text in texts.items()}, [word for it in only for word in ("--only", it)])
+        several = next((found for found in map(SEVERAL.match, lines) if found and found[1] in only), None)
+        if not several:
+            return lines, status
+        only.remove(several[1])
+        only += re.findall(r"`([^`]*)`", several[2])
 
 
 def goal_of(spans, lines):
