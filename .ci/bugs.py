@@ -8,8 +8,8 @@ import pathlib
 
 from functions import first_above, function_at, function_names, proof_folder
 
-# So many bugs are tried in one check: more would cost more to try again where one of them can't be read.
-MOST = 24
+# So many bugs are tried in one check: each check reads the libraries anew, and the last checks should take all processors.
+MOST = 48
 
 
 @dataclasses.dataclass

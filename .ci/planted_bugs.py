@@ -41,6 +41,8 @@ GOAL = re.compile(r"note: (?:\./)?(src/\S+?):(\d+):\d+: ")
 STALE = re.compile(r"(?:note: )?(?:\./)?(proofs/\S+/Answers\.antt):\d+:\d+: error: `([^`]*)`")
 # An answer or a lemma of a file of answers: whether it is public, and its name. And the words of a text.
 ANSWER, WORD = re.compile(r"(pub )?(\S+) : "), re.compile(r"[^\s(){}\[\],.;:]+")
+# So begins what is said of what depends on a stale answer.
+DEPENDS = re.compile(r"\d+ declarations? that depends? on ")
 ERROR = re.compile(r"(?:\./)?(\S+?):\d+:\d+: error: (?:(`[^`]*`): )?(.*)")
 # An error of these kinds says that a text could not be read, where a bug that only makes a statement false reads well.
 UNREADABLE = re.compile(r"is not in scope|has no field|is no name|operand is missing|expected the end|cannot continue")
@@ -92,8 +94,9 @@ def is_unreadable(line, texts):
     at = ERROR.match(line)
     if not at or at[1] not in texts and not at[1].startswith(("src/", "specs/")):
         return False
-    # (a copied answer that names a step which the bug took away doesn't fit its goal any more, and is left out)
-    if STALE.match(line):
+    # (a copied answer that names a step which the bug took away doesn't fit its goal any more, and is left out. What depends on it is
+    # checked then)
+    if STALE.match(line) or DEPENDS.match(at[3]):
         return False
     return not at[2] or bool(UNREADABLE.search(re.sub(r"`[^`]*`", "", at[3])))
 

@@ -1,6 +1,6 @@
 #!/usr/bin/env python3
 """Shows which planted bugs a change affects, and which crates: .ci/changed.py, beside an old tree that differs in one place. And that of
-the bugs that are planted together no goal of one is taken for another's.
+the bugs that are planted together no goal of one is taken for another's, and none is tried alone without need.
 
 A change of a body affects the bugs of that function alone, one of a contract those of its callers too, one of a definition those of each
 function that cites it, in other crates too. What only moved and a comment affect none. A change of a crate is one of those above it
@@ -9,13 +9,15 @@ too. One of a page is none of a crate, and one of a tool may be one of all.
 import collections
 import pathlib
 import sys
+import unittest.mock
 
 sys.path.insert(0, str(pathlib.Path(__file__).resolve().parent.parent))
 from checking import ROOT, Cases, crates
 
+import planted_bugs
 from bugs import batches, plant
 from changed import Changes, since
-from planted_bugs import all_bugs
+from planted_bugs import all_bugs, is_unreadable, said_of
 
 COUNTING = "crates/image_ops/src/counting.rt"
 CONTRACT = "    requires { F.IsAlwaysCallable f.now }\n    ensures { IsCount (F.post f.now) row.now result }\n{\n    "
@@ -28,6 +30,19 @@ CASES = [
     ("a comment", COUNTING, "// The number in a row, block by block.", "// Another comment.", set(), None),
     ("a definition", "crates/image_ops/specs/Counting.antt", "count ≡ count_by test values", "count ≡ count_by test (values)", {"image_ops/count_by_blocks", "image_ops/count_in_row", "image_ops/count_pixels", "imgref/count_where"}, {"row_mover", "image_turns", "texts", "devices"}),
 ]
+
+# A copied proof file. And what is said of one or of a source: whether that could not be read, so that its bugs are tried one by one.
+ANSWERS = "proofs/means/planted_bug/Answers.antt"
+MESSAGES = [
+    ("a stale answer", f"./{ANSWERS}:13:53: error: `returns`: the two types differ", False),
+    ("what depends on one", f"./{ANSWERS}:55:5: error: 1 declaration that depends on `returns`, which was rejected, was not checked: sums", False),
+    ("all that depend on one", f"./{ANSWERS}:41:5: error: 4 declarations that depend on `sums`, which was rejected, were not checked: a, b and 2 more", False),
+    ("a word that is missing", "src/means.rt:7:5: error: `sums`: the name is not in scope", True),
+    ("a word too many", "src/means.rt:7:5: error: expected the end of the item", True),
+    ("another file", "./proofs/Lib.antt:7:5: error: expected the end of the item", False),
+]
+# What is said of a name that two functions have.
+TWO = "rattle: error: several functions are named `eq`: help: write one of `images::One::eq`, `images::Other::eq`"
 
 
 def now():
@@ -47,6 +62,7 @@ def main():
     bugs, bad = all_bugs([*crates()], [])
     cases.count("each planted bug can be planted", bugs and not bad, "\n".join(bad))
     check_lines(cases, bugs)
+    check_together(cases)
     found = functions_affected(bugs, texts)
     cases.count("the same tree affects none", not found, f"{found}")
     found = functions_affected(bugs, {path.replace("/counting", "/moved").replace("crates/imgref/", "crates/another/"): text for path, text in texts.items()})
@@ -69,6 +85,21 @@ def check_lines(cases, bugs):
             of_each = [{(file, line) for file, first, last in it for line in range(first, last + 1)} for it in spans.values()]
             shared |= {(name, *it) for it, times in collections.Counter(line for lines in of_each for line in lines).items() if times > 1}
     cases.count("bugs that are planted together have lines of their own", not shared, str(sorted(shared)[:5]))
+
+
+def check_together(cases):
+    """Only what can't be read has the bugs of a check tried one by one. Of a name that several functions have each is checked."""
+    for what, line, wanted in MESSAGES:
+        cases.count(f"{what}: {'the bugs are tried one by one' if wanted else 'the check goes on'}", is_unreadable(line, {ANSWERS: ""}) == wanted, line)
+    asked = []
+
+    def said(_, __, words):
+        asked.append(words[1::2])
+        return ([TWO], 2) if "eq" in words else ([], 1)
+
+    with unittest.mock.patch.object(planted_bugs, "said_with", said):
+        _, status = said_of("images", {}, ["eq", "turn"])
+    cases.count("a name that two functions have: each is checked", status == 1 and asked == [["eq", "turn"], ["turn", "images::One::eq", "images::Other::eq"]], asked)
 
 
 def check_crates(cases, texts):
