@@ -109,11 +109,16 @@ def names_of(bugs):
     return sorted({name for bug in bugs for name in ([bug.copy] if bug.is_copied else [own(it) for _, it in bug.functions])})
 
 
+def folder_of_copy(bug, crate):
+    """The folder of the proof files of a bug's copy, as messages name it."""
+    return f"{bug.folder.with_name(bug.copy).relative_to(crate).as_posix()}/"
+
+
 def try_together(name, bugs, only):
     """Tries bugs in one check of these functions, or of the whole crate. Gives the goal of each that is refused, those that show
     none, and what the first check said with which texts."""
     crate = ROOT / "crates" / name
-    refused, left, answers, first = {}, bugs, {}, None
+    refused, left, alone, answers, first = {}, bugs, [], {}, None
     for _ in range(MOST_CHECKS):
         planted = plant(left, crate)
         for file, goals in answers.items():
@@ -124,18 +129,22 @@ def try_together(name, bugs, only):
                 planted.texts[file] = without(text, goals)
         lines, status = said_of(name, planted.texts, only(left))
         first = first or (lines, status, planted.texts)
-        if status != 1 or any(is_unreadable(it, planted.texts) for it in lines):
+        unread = [ERROR.match(it)[1] for it in lines if is_unreadable(it, planted.texts)]
+        # (a copy's own proof file that can't be read says nothing of the other bugs)
+        lost = [bug for bug in left if bug.folder and any(it.startswith(folder_of_copy(bug, crate)) for it in unread)]
+        if status != 1 or not all(it.startswith(tuple(folder_of_copy(bug, crate) for bug in lost)) for it in unread):
             break
-        goals = {bug.name: goal_of(planted.spans[bug.name], lines) for bug in left}
+        goals = {bug.name: goal_of(planted.spans[bug.name], lines) for bug in left if bug not in lost}
         refused |= {bug: goal for bug, goal in goals.items() if goal}
-        left = [bug for bug in left if not goals[bug.name]]
+        alone += lost
+        left = [bug for bug in left if bug not in lost and not goals[bug.name]]
         stale = [it.groups() for it in map(STALE.match, lines) if it]
         if not left or not stale:
             break
         for file, goal in stale:
             answers.setdefault(file, set()).add(goal)
         print(f"{name}: again without {', '.join(f'{file} {goal}' for file, goal in stale)}: {', '.join(it.path.stem for it in left)}", flush=True)
-    return refused, left, first
+    return refused, [*left, *alone], first
 
 
 def try_all(name, bugs):
