@@ -8,7 +8,7 @@ import pathlib
 
 from functions import first_above, function_at, function_names, proof_folder
 
-# So many bugs are tried in one check: each check reads the libraries anew, and the last checks should take all processors.
+# At most so many bugs are tried in one check. Fewer would read the libraries more often, and more would leave processors idle at the end.
 MOST = 48
 
 

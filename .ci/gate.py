@@ -31,7 +31,6 @@ import re
 import shutil
 import subprocess
 import sys
-import tempfile
 import threading
 import time
 
@@ -42,7 +41,7 @@ from needs import of_tests
 from packing import sum_of
 from processes import end_on_signals, run_to_end, started, workers
 from setup import set_up
-from workspace import is_proved, need_rattle, proved_once
+from workspace import free_disks, is_proved, need_rattle, proved_once
 
 # The checks. Those in `built` run programs, and those in `proofs` go over cached proofs.
 CHECKS = ROOT / ".ci/checks"
@@ -204,17 +203,12 @@ def sessions():
     return found
 
 
-def least_free():
-    """The bytes that are free where the parts write, on the fuller disk: in the checkout, and in the folder of rooms."""
-    return min(shutil.disk_usage(it).free for it in (ROOT, tempfile.gettempdir()))
-
-
 class Usage:
     """Looks once a second at how much memory the parts take, and how much of the disks is free."""
 
     def __init__(self, parts):
         self.parts, self.most, self.ended = parts, 0, threading.Event()
-        self.free = least_free()
+        self.free = min(free_disks().values())
         self.thread = threading.Thread(target=self.look, daemon=True)
 
     def look(self):
@@ -223,7 +217,7 @@ class Usage:
             for it in self.parts:
                 mine = found.get(it.process.pid, 0) if it.process else 0
                 it.memory, taken = max(it.memory, mine), taken + mine
-            self.most, self.free = max(self.most, taken), min(self.free, least_free())
+            self.most, self.free = max(self.most, taken), min(self.free, *free_disks().values())
 
     def __enter__(self):
         self.thread.start()

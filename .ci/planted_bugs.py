@@ -131,8 +131,9 @@ def try_together(name, bugs, only):
         first = first or (lines, status, planted.texts)
         unread = [ERROR.match(it)[1] for it in lines if is_unreadable(it, planted.texts)]
         # (a copy's own proof file that can't be read says nothing of the other bugs)
-        lost = [bug for bug in left if bug.folder and any(it.startswith(folder_of_copy(bug, crate)) for it in unread)]
-        if status != 1 or not all(it.startswith(tuple(folder_of_copy(bug, crate) for bug in lost)) for it in unread):
+        folders = {bug.name: folder_of_copy(bug, crate) for bug in left if bug.folder}
+        lost = [bug for bug in left if bug.name in folders and any(it.startswith(folders[bug.name]) for it in unread)]
+        if status != 1 or any(not it.startswith(tuple(folders.values())) for it in unread):
             break
         goals = {bug.name: goal_of(planted.spans[bug.name], lines) for bug in left if bug not in lost}
         refused |= {bug: goal for bug, goal in goals.items() if goal}

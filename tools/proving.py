@@ -284,8 +284,8 @@ def turn_of(chain, is_large, running, ready, count):
     # (what gives way most takes nothing from a long chain, and doesn't wait for one)
     idle = count - sum(not is_long or it < GIVES_WAY[-1] for _, it in running)
     waits = sum(not is_long or it >= NEAR * chain for it in ready)
-    most = min(count, MOST_JOBS)
-    return way, min(most, max(2, idle - waits + 1)) if is_long and is_large else max(1, min(most, idle // max(waits, 1), 2))
+    jobs = max(2, idle - waits + 1) if is_long and is_large else max(1, min(idle // max(waits, 1), 2))
+    return way, min(jobs, count, MOST_JOBS)
 
 
 def weights_of(names):

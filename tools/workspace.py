@@ -43,14 +43,15 @@ def tell(kind, why, trace):
         print(f"{name} is needed, and there is no such program on PATH. `make setup` installs the tools.", file=sys.stderr)
     elif isinstance(why, OSError) and os.strerror(errno.ENOSPC) in str(why):
         # (a copy of a folder tells of each file that it couldn't write)
-        print(f"the disk is full, so this ends: {free_disks()}", file=sys.stderr)
+        free = ", ".join(f"{it / 1e9:.1f} GB are free in {folder}" for folder, it in free_disks().items())
+        print(f"the disk is full, so this ends: {free}", file=sys.stderr)
     else:
         sys.__excepthook__(kind, why, trace)
 
 
 def free_disks():
-    """What is free where the tools write: in the checkout, and in the folder of rooms."""
-    return ", ".join(f"{shutil.disk_usage(it).free / 1e9:.1f} GB are free in {it}" for it in dict.fromkeys([str(ROOT), tempfile.gettempdir()]))
+    """The bytes that are free where the tools write: in the checkout, and in the folder of rooms."""
+    return {it: shutil.disk_usage(it).free for it in (str(ROOT), tempfile.gettempdir())}
 
 
 # Each tool of `make` imports this file before it opens another.

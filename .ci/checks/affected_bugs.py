@@ -17,7 +17,7 @@ from checking import ROOT, Cases, crates
 import planted_bugs
 from bugs import batches, plant
 from changed import Changes, since
-from planted_bugs import all_bugs, is_unreadable, said_of
+from planted_bugs import all_bugs, folder_of_copy, is_unreadable, names_of, said_of, try_together
 
 COUNTING = "crates/image_ops/src/counting.rt"
 CONTRACT = "    requires { F.IsAlwaysCallable f.now }\n    ensures { IsCount (F.post f.now) row.now result }\n{\n    "
@@ -62,7 +62,7 @@ def main():
     bugs, bad = all_bugs([*crates()], [])
     cases.count("each planted bug can be planted", bugs and not bad, "\n".join(bad))
     check_lines(cases, bugs)
-    check_together(cases)
+    check_together(cases, bugs)
     found = functions_affected(bugs, texts)
     cases.count("the same tree affects none", not found, f"{found}")
     found = functions_affected(bugs, {path.replace("/counting", "/moved").replace("crates/imgref/", "crates/another/"): text for path, text in texts.items()})
@@ -87,8 +87,9 @@ def check_lines(cases, bugs):
     cases.count("bugs that are planted together have lines of their own", not shared, str(sorted(shared)[:5]))
 
 
-def check_together(cases):
-    """Only what can't be read has the bugs of a check tried one by one. Of a name that several functions have each is checked."""
+def check_together(cases, bugs):
+    """Only what can't be read has the bugs of a check tried one by one, and where it is a copy's proof file, that bug alone. Of a name that
+    several functions have each is checked."""
     for what, line, wanted in MESSAGES:
         cases.count(f"{what}: {'the bugs are tried one by one' if wanted else 'the check goes on'}", is_unreadable(line, {ANSWERS: ""}) == wanted, line)
     asked = []
@@ -99,6 +100,13 @@ def check_together(cases):
 
     with unittest.mock.patch.object(planted_bugs, "said_with", said):
         _, status = said_of("images", {}, ["eq", "turn"])
+    crate = ROOT / "crates/image_means"
+    lost, other = [it for it in bugs["image_means"] if it.folder][:2]
+    file, first, _ = plant([lost, other], crate).spans[other.name][0]
+    lines = [f"./{folder_of_copy(lost, crate)}Answers.antt:5:9: error: module `Goals` has no name `sums`", f"note: {file}:{first}:1: it is not proved"]
+    with unittest.mock.patch.object(planted_bugs, "said_of", lambda *_: (lines, 1)):
+        refused, left, _ = try_together("image_means", [lost, other], names_of)
+    cases.count("a copy's proof file that can't be read: that bug alone is tried again", [*refused] == [other.name] and left == [lost], f"{[*refused]} {left}")
     cases.count("a name that two functions have: each is checked", status == 1 and asked == [["eq", "turn"], ["turn", "images::One::eq", "images::Other::eq"]], asked)
 
 

@@ -2,8 +2,9 @@
 """Shows that what `make run` says of its progress moves, and that it tells what is left.
 
 The prover's lines of three crates go to the same class, second by second. So do those of `make run`, which were recorded from
-nothing on an idle machine: at each tenth of the time what is left is told to a third. A table says which turn a crate gets. `progress.py --write` records the last proofs of
-this checkout anew: for a change by which the recorded ones no longer stand for today's crates.
+nothing on an idle machine: at each tenth of the time what is left is told to a third. A table says which turn a crate gets.
+`progress.py --write` records the last proofs of this checkout anew: for a change by which the recorded ones no longer stand for
+today's crates.
 """
 import pathlib
 import re
